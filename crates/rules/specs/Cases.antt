@@ -1,0 +1,142 @@
+-- Cases: what the rules give beside what document 01 says, and the calls and items that the cases are made of.
+pub mod Starred
+-- pub mod Readings
+use Prim.Native.Nat.{ℕ}
+use mathlib.Core.Path.{_≡_}
+use mathlib.Core.List.{List, [], _∷_, map}
+use Rattle.rules.specs.Limits.{storeBytes, replyBytesMin, flight, fence, rally}
+use Rattle.rules.specs.Payload.{Bytes}
+use Rattle.rules.specs.Layouts.{setCurrentId, requestListId, countId, clearAllId, ackId, requestIntId, itemIntId}
+use Rattle.rules.specs.Messages.{Station, station, Item, Message, setCurrent, requestList, count, clearAll, ack, requestInt, itemInt, encode}
+use Rattle.rules.specs.Model.{Model, Shown, Upload}
+use Rattle.rules.specs.NextCommand.{Command}
+use Rattle.rules.specs.Calls.{Call, message, timer, done}
+use Rattle.rules.specs.Step.{Answer, step, run}
+
+pub data Value : Type 0 where
+  number : ℕ → Value
+  bytes : Bytes → Value
+  answer : Answer → Value
+  commands : List Command → Value
+  shown : Shown → Value
+  upload : Upload → Value
+  reads : Message → Value
+
+pub record Case : Type 0 where
+  pub given : Value
+  pub expected : Value
+
+infix 3 _is_
+abbrev pub _is_ : Value → Value → Case
+a is b = record { given = a; expected = b }
+
+-- every case gives what is expected
+abbrev pub Hold : List Case → Type 0
+Hold cases = map (λ (c : Case). c .given) cases ≡ map (λ (c : Case). c .expected) cases
+
+-- ---- stations and calls: the vehicle is 1/1
+
+abbrev pub vehicle : Station
+vehicle = station 1 1
+
+abbrev pub tablet : Station
+tablet = station 255 190
+
+abbrev pub neighbour : Station
+neighbour = station 254 190
+
+abbrev pub sends : (from : Station) (clock id : ℕ) → Bytes → Call
+sends from clock id payload = message vehicle from id payload clock storeBytes replyBytesMin
+
+abbrev pub sendsCount : (from : Station) (clock kind n : ℕ) → Call
+sendsCount from clock kind n = sends from clock countId (encode (count vehicle n kind 0))
+
+abbrev pub sendsItem : (from : Station) (clock : ℕ) → Item → Call
+sendsItem from clock item = sends from clock itemIntId (encode (itemInt vehicle 0 item))
+
+abbrev pub sendsAck : (from : Station) (kind result : ℕ) → Call
+sendsAck from kind result = sends from 0 ackId (encode (ack vehicle result kind 0))
+
+abbrev pub sendsClear : (from : Station) (kind : ℕ) → Call
+sendsClear from kind = sends from 0 clearAllId (encode (clearAll vehicle kind))
+
+abbrev pub asksForList : (from : Station) (kind : ℕ) → Call
+asksForList from kind = sends from 0 requestListId (encode (requestList vehicle kind))
+
+abbrev pub asksForItem : (from : Station) (kind seq : ℕ) → Call
+asksForItem from kind seq = sends from 0 requestIntId (encode (requestInt vehicle seq kind))
+
+abbrev pub setsCurrent : (from : Station) (seq : ℕ) → Call
+setsCurrent from seq = sends from 0 setCurrentId (encode (setCurrent vehicle seq))
+
+abbrev pub ticks : (clock kind : ℕ) → Call
+ticks clock kind = timer kind clock storeBytes replyBytesMin
+
+abbrev pub finishes : Call
+finishes = done storeBytes
+
+-- the answer to a call after a list of calls
+abbrev pub after : Model → List Call → Call → Answer
+after m calls c = step (run m calls) c .answer
+
+-- ---- items, in frame 3
+
+-- the patterns of some floats
+abbrev pub f1 : ℕ
+f1 = 0x3f800000
+
+abbrev pub f2 : ℕ
+f2 = 0x40000000
+
+abbrev pub f3 : ℕ
+f3 = 0x40400000
+
+abbrev pub f4 : ℕ
+f4 = 0x40800000
+
+abbrev pub fNaN : ℕ
+fNaN = 0x7fc00001
+
+abbrev pub fMinusZero : ℕ
+fMinusZero = 0x80000000
+
+abbrev pub fMinusOne : ℕ
+fMinusOne = 0xbf800000
+
+abbrev pub itemAs : (kind command seq param1 param2 x : ℕ) → Item
+itemAs kind command seq param1 param2 x =
+    record {
+      param1 = param1;
+      param2 = param2;
+      param3 = 0;
+      param4 = 0;
+      x = x;
+      y = 0;
+      z = 0;
+      seq = seq;
+      command = command;
+      frame = 3;
+      autocontinue = 1;
+      kind = kind;
+    }
+
+abbrev pub waypoint : (seq : ℕ) → Item
+waypoint seq = itemAs flight 16 seq 0 0 0
+
+abbrev pub takeoff : (seq : ℕ) → Item
+takeoff seq = itemAs flight 22 seq 0 0 0
+
+abbrev pub land : (seq : ℕ) → Item
+land seq = itemAs flight 21 seq 0 0 0
+
+abbrev pub jumpTo : (seq target repeat : ℕ) → Item
+jumpTo seq target repeat = itemAs flight 177 seq target repeat 0
+
+abbrev pub vertex : (seq m : ℕ) → Item
+vertex seq m = itemAs fence 5001 seq m 0 0
+
+abbrev pub circle : (seq : ℕ) → Item
+circle seq = itemAs fence 5003 seq f1 0 0
+
+abbrev pub rallyPoint : (seq : ℕ) → Item
+rallyPoint seq = itemAs rally 5100 seq 0 0 0
