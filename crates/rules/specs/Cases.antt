@@ -1,6 +1,6 @@
 -- Cases: what the rules give beside what document 01 says, and the calls and items that the cases are made of.
 pub mod Starred
--- pub mod Readings
+pub mod Readings
 use Prim.Native.Nat.{ℕ}
 use mathlib.Core.Path.{_≡_}
 use mathlib.Core.List.{List, [], _∷_, map}
