@@ -1,0 +1,44 @@
+-- Kinds: what holds of flight, fence and rally holds of every known kind; what the range test says of a kind.
+use Prim.Native.Nat.{ℕ, zero, suc, _≤_}
+use native.Mathlib.Omega.{arith}
+use mathlib.Core.Path.{_≡_}
+use mathlib.Core.Bool.{Bool, true, false, _&&_, _||_}
+use mathlib.Core.List.{List, [], _∷_}
+use lib.ListN.{length}
+use lib.Dec.{eqb, leb, ltb}
+use borrow.Author.Tests.{leb-true}
+use Rattle.rules.specs.Limits.{flight, fence, rally, kinds, sizeOf, maxRuns}
+use Rattle.rules.specs.Model.{Model, uploadOf, lengthOf, every, uploadInRange, inRange}
+use Rattle.rules.specs.Calls.{isKnown}
+use Rattle.rules.specs.Laws.Tests.{both}
+
+pub each-kind : (P : ℕ → Type 0) → P flight → P fence → P rally → (kind : ℕ) → isKnown kind ≡ true → P kind
+each-kind P a b c zero known = a
+each-kind P a b c (suc zero) known = b
+each-kind P a b c (suc (suc zero)) known = c
+each-kind P a b c (suc (suc (suc n))) known = absurd (let below : suc (suc (suc n)) ≤ rally = leb-true (suc (suc (suc n))) rally known in omega arith)
+
+pub size-small : (kind : ℕ) → sizeOf kind ≤ 256
+size-small zero = omega arith
+size-small (suc zero) = omega arith
+size-small (suc (suc zero)) = omega arith
+size-small (suc (suc (suc n))) = omega arith
+
+-- what the range test asks of a kind
+abbrev pub kindRanged : Model → ℕ → Bool
+kindRanged m kind = leb (lengthOf (m .shown) kind) (sizeOf kind) && uploadInRange kind (uploadOf m kind)
+
+ranged-three : (m : Model) → every (kindRanged m) kinds ≡ true → (kind : ℕ) → isKnown kind ≡ true → kindRanged m kind ≡ true
+ranged-three m e =
+    let first = both (kindRanged m flight) (kindRanged m fence && (kindRanged m rally && true)) e in
+    let second = both (kindRanged m fence) (kindRanged m rally && true) (first .1) in
+    each-kind (λ (kind : ℕ). kindRanged m kind ≡ true) (first .0) (second .0) (both (kindRanged m rally) true (second .1) .0)
+
+-- a plan's length is at most its size, and an upload is in its ranges
+pub ranged-kind : (m : Model) → inRange m ≡ true → (kind : ℕ) → isKnown kind ≡ true → kindRanged m kind ≡ true
+unfolding inRange
+ranged-kind m e =
+    let plans = every (kindRanged m) kinds in
+    let place = ltb (m .shown .current) (lengthOf (m .shown) flight) || eqb (m .shown .current) 0 in
+    let runs = every (λ (n : ℕ). leb n maxRuns) (m .shown .counts) in
+    ranged-three m (both plans place (both (plans && place) runs e .0) .0)

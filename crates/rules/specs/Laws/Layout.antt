@@ -1,0 +1,71 @@
+-- The table of layouts: each row's fields follow one another from 0 to its full length, and what is packed by them is read back.
+use Prim.Native.Nat.{ℕ, zero, suc, _+_, _^_, _<_}
+use mathlib.Core.Path.{_≡_, refl, sym, ap, ap₂, subst, _∙_}
+use mathlib.Core.List.{List, [], _∷_, _++_, append-assoc, append-nil}
+use mathlib.Core.Bool.{Bool, true, false, cond, _&&_}
+use lib.ListN.{length, getD, length-append}
+use lib.Dec.{eqb}
+use borrow.Author.Tests.{eqb-true}
+use Rattle.rules.specs.Limits.{byteValues}
+use Rattle.rules.specs.Payload.{Bytes, numberAt, bytesOf}
+use Rattle.rules.specs.Layouts.{Field, Layout, layouts, layoutOf, find, values, pack}
+use Rattle.rules.specs.Laws.Tests.{both}
+use Rattle.rules.specs.Laws.Numbers.{length-bytesOf, numberAt-agree, numberAt-fits, numberAt-bytesOf}
+
+-- the fields follow one another from `at` to `full`
+abbrev pub follow : (at full : ℕ) → List Field → Bool
+follow at full [] = eqb at full
+follow at full (f ∷ fs) = eqb (f .at) at && follow (at + f .size) full fs
+
+-- each value fits its field, and there are as many of them
+abbrev pub FitFields : List Field → List ℕ → Type 0
+FitFields [] [] = Unit {0}
+FitFields [] (v ∷ vs) = ⊥
+FitFields (f ∷ fs) [] = ⊥
+FitFields (f ∷ fs) (v ∷ vs) = (v < byteValues ^ f .size) × FitFields fs vs
+
+-- every row of the table follows on to its full length, so every id's does
+allFollow : List Layout → Bool
+allFollow [] = true
+allFollow (l ∷ ls) = follow 0 (l .full) (l .fields) && allFollow ls
+
+find-follows : (ls : List Layout) (id : ℕ) → allFollow ls ≡ true → follow 0 (find ls id .full) (find ls id .fields) ≡ true
+unfolding allFollow
+find-follows [] id e = refl
+find-follows (l ∷ ls) id e = go (eqb (l .id) id) (find-follows ls id (both (follow 0 (l .full) (l .fields)) (allFollow ls) e .1))
+  where
+    go : (t : Bool) → follow 0 (find ls id .full) (find ls id .fields) ≡ true → follow 0 (cond t l (find ls id) .full) (cond t l (find ls id) .fields) ≡ true
+    go true ih = both (follow 0 (l .full) (l .fields)) (allFollow ls) e .0
+    go false ih = ih
+
+-- every row's fields follow one another from 0 to its full length
+pub layouts-follow : (id : ℕ) → follow 0 (layoutOf id .full) (layoutOf id .fields) ≡ true
+unfolding layoutOf allFollow
+layouts-follow id = find-follows layouts id refl
+
+-- values packed behind a front part are read back
+pub values-pack :
+    (full : ℕ) (fs : List Field) (vs : List ℕ) (pre : Bytes) → follow (length pre) full fs ≡ true → FitFields fs vs
+    → values fs (pre ++ pack fs vs) ≡ vs
+unfolding values pack
+values-pack full [] [] pre e h = refl
+values-pack full [] (v ∷ vs) pre e h = absurd h
+values-pack full (f ∷ fs) [] pre e h = absurd h
+values-pack full (f ∷ fs) (v ∷ vs) pre e h =
+    let parts = both (eqb (f .at) (length pre)) (follow (length pre + f .size) full fs) e in
+    let here : f .at ≡ length pre = eqb-true (f .at) (length pre) (parts .0) in
+    let b = bytesOf (f .size) v in
+    let same : (pre ++ b) ++ pack fs vs ≡ pre ++ (b ++ pack fs vs) = append-assoc pre b (pack fs vs) in
+    let grown : length (pre ++ b) ≡ length pre + f .size = length-append pre b ∙ ap (λ (n : ℕ). length pre + n) (length-bytesOf (f .size) v) in
+    let rest : follow (length (pre ++ b)) full fs ≡ true = subst (λ (n : ℕ). follow n full fs ≡ true) (sym grown) (parts .1) in
+    let first : numberAt (f .size) (f .at) (pre ++ (b ++ pack fs vs)) ≡ v =
+    ap (λ (n : ℕ). numberAt (f .size) n (pre ++ (b ++ pack fs vs))) here ∙ numberAt-bytesOf (f .size) v pre (pack fs vs) (h .0) in
+    let later : values fs (pre ++ (b ++ pack fs vs)) ≡ vs =
+    ap (λ (l : Bytes). values fs l) (sym same) ∙ values-pack full fs vs (pre ++ b) rest (h .1) in
+    ap₂ {C = List ℕ} (λ (n : ℕ) (l : List ℕ). n ∷ l) first later
+
+-- the fields of bytes fit
+pub values-fit : (fs : List Field) (p : Bytes) → ((i : ℕ) → getD p i 0 < byteValues) → FitFields fs (values fs p)
+unfolding values
+values-fit [] p small = tt
+values-fit (f ∷ fs) p small = (numberAt-fits (f .size) (f .at) p small, values-fit fs p small)
