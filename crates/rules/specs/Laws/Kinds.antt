@@ -18,7 +18,8 @@ each-kind P a b c (suc zero) known = b
 each-kind P a b c (suc (suc zero)) known = c
 each-kind P a b c (suc (suc (suc n))) known = absurd (let below : suc (suc (suc n)) ≤ rally = leb-true (suc (suc (suc n))) rally known in omega arith)
 
-pub size-small : (kind : ℕ) → sizeOf kind ≤ 256
+-- flight plans are the largest
+pub size-small : (kind : ℕ) → sizeOf kind ≤ sizeOf flight
 size-small zero = omega arith
 size-small (suc zero) = omega arith
 size-small (suc (suc zero)) = omega arith

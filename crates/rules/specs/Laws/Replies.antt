@@ -156,7 +156,7 @@ fault-small kind n own jumps item = among-small commands kind n own jumps item
 -- ---- the handlers
 
 -- the expected number of an upload in its ranges
-next-small : (kind : ℕ) (r : Run) → uploadInRange kind (running r) ≡ true → expected r < 256
+next-small : (kind : ℕ) (r : Run) → uploadInRange kind (running r) ≡ true → expected r < sizeOf flight
 unfolding uploadInRange
 next-small kind r e =
     let some = leb 1 (r .count) in
@@ -178,7 +178,7 @@ module _ (m : Model) (fits : ModelFits m) (ranged : inRange m ≡ true) (from : 
   acks-fit : (result : ℕ) → Small result → Fits (ack from result kind 0)
   acks-fit result h = ack-fits from result kind 0 sender h kind-small (omega arith)
 
-  length-fits : lengthOf (m .shown) kind ≤ 256
+  length-fits : lengthOf (m .shown) kind ≤ sizeOf flight
   length-fits =
       let parts = both (leb (lengthOf (m .shown) kind) (sizeOf kind)) (uploadInRange kind (uploadOf m kind)) (ranged-kind m ranged kind known) in
       let le = leb-true (lengthOf (m .shown) kind) (sizeOf kind) (parts .0) in
@@ -191,7 +191,7 @@ module _ (m : Model) (fits : ModelFits m) (ranged : inRange m ≡ true) (from : 
       (λ e. either Good (ltb (sizeOf kind) n) (λ e. acks-fit noSpace (omega arith))
       (λ e. either Good (eqb n 0) (λ e. acks-fit accepted (omega arith)) (λ e. request-fits from 0 kind sender (omega arith) kind-small)))
 
-  takes-good : (now : ℕ) (r : Run) (b : Bytes) → expected r < 256 → Good (takes m from now kind r b)
+  takes-good : (now : ℕ) (r : Run) (b : Bytes) → expected r < sizeOf flight → Good (takes m from now kind r b)
   unfolding takes
   takes-good now r b h =
       either Good (not (isLast r)) (λ e. request-fits from (expected r + 1) kind sender (omega arith) kind-small)
@@ -203,7 +203,7 @@ module _ (m : Model) (fits : ModelFits m) (ranged : inRange m ≡ true) (from : 
   unfolding onItem
   item-good idle e now item = acks-fit invalidSequence (omega arith)
   item-good (running r) e now item =
-      let next : expected r < 256 = next-small kind r e in
+      let next : expected r < sizeOf flight = next-small kind r e in
       let verdict = fault kind (r .count) (expected r) (jumpsAmong (r .taken)) item in
       either Good (not (sameStation from (r .station))) (λ e. acks-fit denied (omega arith))
       (λ e. either Good (not (eqb (item .seq) (expected r))) (λ e. request-fits from (expected r) kind sender (omega arith) kind-small)
@@ -277,7 +277,7 @@ timer-good : (m : Model) (u : Upload) (now kind : ℕ) → UploadFits u → uplo
 unfolding onTimer
 timer-good m idle now kind fits e small = tt
 timer-good m (running r) now kind fits e small =
-    let next : expected r < 256 = next-small kind r e in
+    let next : expected r < sizeOf flight = next-small kind r e in
     either Good (ltb (elapsed now (r .started)) expiryMs) (λ e. tt)
     (λ e. either Good (ltb (r .repeats) maxRepeats) (λ e. request-fits (r .station) (expected r) kind (fits .station) (omega arith) small)
     (λ e. ack-fits (r .station) cancelled kind 0 (fits .station) (omega arith) small (omega arith)))
