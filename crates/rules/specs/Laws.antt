@@ -6,3 +6,4 @@ pub mod Layout
 pub mod Decode
 pub mod Kinds
 pub mod Replies
+pub mod Refused

@@ -23,6 +23,12 @@ pub data Answer : Type 0 where
   -- 1, of a "command done" call
   orders : Command → Answer
 
+abbrev pub isRefused : Answer → Bool
+isRefused (refused outcome) = true
+isRefused silent = false
+isRefused (says reply) = false
+isRefused (orders c) = false
+
 pub record Stepped : Type 0 where
   pub model : Model
   pub answer : Answer

@@ -1,0 +1,5 @@
+-- Demand 3 over the rules: uploads told by the list of calls, and what takes effect.
+pub mod Uploads
+pub mod Tracks
+pub mod Rules
+pub mod Laws

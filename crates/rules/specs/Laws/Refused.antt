@@ -1,0 +1,72 @@
+-- Refusals: only a call that is heard as a refusal is answered by one, and then nothing changes.
+use Prim.Native.Nat.{ℕ, _+_}
+use mathlib.Core.Path.{_≡_, refl, sym, _∙_}
+use mathlib.Core.List.{List, [], _∷_}
+use mathlib.Core.Bool.{Bool, true, false, true≢false, not, _&&_}
+use lib.Dec.{eqb, leb, ltb}
+use Rattle.rules.specs.Limits.{flight, sizeOf, maxRepeats, expiryMs, accepted, storeBytes, replyBytesMin, outOfRange}
+use Rattle.rules.specs.Payload.{Bytes}
+use Rattle.rules.specs.Messages.{Station, sameStation, Item, Message, setCurrent, current, requestList, count, clearAll, ack, requestInt, itemInt, statustext, unknown, decode, itemOf}
+use Rattle.rules.specs.Items.{jumpsAmong, fault}
+use Rattle.rules.specs.Model.{Run, Upload, idle, running, Model, uploadOf, lengthOf, elapsed, expected, isLast, whole, wholeOk, isOthers, isOwn, inRange}
+use Rattle.rules.specs.Calls.{Call, Request, chooses, asksList, announces, clears, acknowledges, asksItem, brings, Heard, refuses, request, expiry, commandDone, heard}
+use Rattle.rules.specs.Step.{Answer, isRefused, Stepped, onCount, takes, onItem, onAck, onClear, anyOthers, covered, onList, onRequest, onSetCurrent, onKnown, kindOk, onMessage, onTimer, act, step}
+use Rattle.rules.specs.Laws.Tests.{either}
+
+abbrev Answered : Stepped → Type 0
+Answered s = isRefused (s .answer) ≡ false
+
+module _ (m : Model) (from : Station) (now kind : ℕ) where
+  count-answered : (n : ℕ) → Answered (onCount m from now kind n)
+  unfolding onCount
+  count-answered n =
+      either Answered (isOthers from (uploadOf m kind)) (λ t. refl) (λ t. either Answered (ltb (sizeOf kind) n) (λ t. refl) (λ t. either Answered (eqb n 0) (λ t. refl) (λ t. refl)))
+
+  takes-answered : (r : Run) (b : Bytes) → Answered (takes m from now kind r b)
+  unfolding takes
+  takes-answered r b = either Answered (not (isLast r)) (λ t. refl) (λ t. either Answered (wholeOk kind (whole r b)) (λ t. refl) (λ t. refl))
+
+  item-answered : (u : Upload) (item : Item) → Answered (onItem u m from now kind item)
+  unfolding onItem
+  item-answered idle item = refl
+  item-answered (running r) item =
+      let verdict = fault kind (r .count) (expected r) (jumpsAmong (r .taken)) item in
+      either Answered (not (sameStation from (r .station))) (λ t. refl)
+      (λ t. either Answered (not (eqb (item .seq) (expected r))) (λ t. refl)
+      (λ t. either Answered (not (eqb verdict accepted)) (λ t. refl) (λ t. takes-answered r (itemOf item))))
+
+  known-answered : (q : Request) → Answered (onKnown m from now kind q)
+  unfolding onKnown onSetCurrent onList onRequest onAck onClear
+  known-answered (chooses seq) = either Answered (ltb seq (lengthOf (m .shown) flight)) (λ t. refl) (λ t. refl)
+  known-answered asksList = refl
+  known-answered (announces n) = count-answered n
+  known-answered clears = either Answered (anyOthers m from (covered kind)) (λ t. refl) (λ t. refl)
+  known-answered (acknowledges result) = either Answered (isOwn from (uploadOf m kind) && not (eqb result accepted)) (λ t. refl) (λ t. refl)
+  known-answered (asksItem seq) = either Answered (ltb seq (lengthOf (m .shown) kind)) (λ t. refl) (λ t. refl)
+  known-answered (brings item) = item-answered (uploadOf m kind) item
+
+  pub message-answered : (q : Request) → Answered (onMessage m from now kind q)
+  unfolding onMessage
+  message-answered q = either Answered (kindOk kind q) (λ t. known-answered q) (λ t. refl)
+
+pub timer-answered : (m : Model) (u : Upload) (now kind : ℕ) → Answered (onTimer u m now kind)
+unfolding onTimer
+timer-answered m idle now kind = refl
+timer-answered m (running r) now kind =
+    either Answered (ltb (elapsed now (r .started)) expiryMs) (λ t. refl) (λ t. either Answered (ltb (r .repeats) maxRepeats) (λ t. refl) (λ t. refl))
+
+clash : {A : Type 0} → false ≡ true → A
+clash e = absurd (true≢false (sym e))
+
+-- a call answered by a refusal changes nothing
+pub refused-unchanged : (m : Model) (h : Heard) → isRefused (act m h .answer) ≡ true → act m h .model ≡ m
+unfolding act
+refused-unchanged m (refuses outcome) e = refl
+refused-unchanged m (request from now kind q) e = clash (sym (message-answered m from now kind q) ∙ e)
+refused-unchanged m (expiry now kind) e = clash (sym (timer-answered m (uploadOf m kind) now kind) ∙ e)
+refused-unchanged m commandDone e = clash e
+
+-- "The step of a refused call changes nothing."
+pub step-refused : (m : Model) (c : Call) → isRefused (step m c .answer) ≡ true → step m c .model ≡ m
+unfolding step
+step-refused m c e = refused-unchanged m (heard (inRange m) c) e
