@@ -1,0 +1,111 @@
+-- What each message and timer call makes of one kind's plan, over the state's own records.
+use Prim.Native.Nat.{ℕ, _+_}
+use mathlib.Core.List.{List, [], _∷_}
+use mathlib.Core.Bool.{Bool, true, false, not, cond, _&&_}
+use lib.Dec.{eqb, ltb}
+use Rattle.rules.specs.Limits.{sizeOf, maxRepeats, expiryMs, accepted, noSpace, invalid, invalidSequence, denied, cancelled}
+use Rattle.rules.specs.Payload.{Bytes}
+use Rattle.rules.specs.Messages.{Station, Item, itemOf}
+use Rattle.rules.specs.Items.{jumpsAmong, fault}
+use Rattle.rules.specs.Model.{nextNumber, elapsed, wholeOk}
+use Rattle.plan.specs.declared.Plan.{Plan}
+use Rattle.plan.specs.declared.Run.{Run}
+use Rattle.plan.specs.declared.Upload.{Upload}
+use Rattle.plan.specs.declared.Upload.the-variants.{Idle, Running}
+use Rattle.plan.specs.Places.{itemsIn}
+use Rattle.plan.specs.Writes.{putAt}
+use Rattle.engine.specs.declared.Say.{Say}
+use Rattle.engine.specs.declared.Say.the-variants.{Silent, Ack, Ask}
+use Rattle.engine.specs.declared.Turned.{Turned}
+
+-- ---- one definition for each update of a plan
+
+abbrev pub withUpload : Plan → Upload → Plan
+withUpload p u = record { len = p .len; half = p .half; number = p .number; upload = u }
+
+abbrev pub ended : Plan → Plan
+ended p = withUpload p Idle
+
+abbrev pub emptied : Plan → Plan
+emptied p = record { len = 0; half = p .half; number = p .number; upload = Idle }
+
+-- the items taken become the plan: the other half, the next number
+abbrev pub replaced : Plan → ℕ → Plan
+replaced p n = record { len = n; half = not (p .half); number = nextNumber (p .number); upload = Idle }
+
+abbrev pub started : Station → (now n : ℕ) → Run
+started from now n = record { system = from .system; component = from .component; count = n; next = 0; started = now; repeats = 0 }
+
+abbrev pub tookOne : Run → (now : ℕ) → Run
+tookOne r now = record { system = r .system; component = r .component; count = r .count; next = r .next + 1; started = now; repeats = 0 }
+
+abbrev pub askedAgain : Run → (now : ℕ) → Run
+askedAgain r now = record { system = r .system; component = r .component; count = r .count; next = r .next; started = now; repeats = r .repeats + 1 }
+
+-- ---- whose an upload is
+
+abbrev pub isFrom : Station → Run → Bool
+isFrom from r = eqb (from .system) (r .system) && eqb (from .component) (r .component)
+
+unfoldable pub othersUpload : Station → Upload → Bool
+othersUpload from Idle = false
+othersUpload from (Running r) = not (isFrom from r)
+
+unfoldable pub ownUpload : Station → Upload → Bool
+ownUpload from Idle = false
+ownUpload from (Running r) = isFrom from r
+
+-- ---- the handlers
+
+abbrev pub keeps : Plan → Say → Turned
+keeps p say = record { plan = p; renewed = false; say = say }
+
+abbrev pub renews : Plan → Say → Turned
+renews p say = record { plan = p; renewed = true; say = say }
+
+unfoldable pub countTurned : Plan → Station → (now n size : ℕ) → Turned
+countTurned p from now n size =
+    cond (othersUpload from (p .upload)) (keeps p (Ack denied 0))
+    (cond (ltb size n) (keeps (ended p) (Ack noSpace 0))
+    (cond (eqb n 0) (renews (emptied p) (Ack accepted 0))
+    (keeps (withUpload p (Running (started from now n))) (Ask 0))))
+
+unfoldable pub ackTurned : Plan → Station → (result : ℕ) → Turned
+ackTurned p from result = cond (ownUpload from (p .upload) && not (eqb result accepted)) (keeps (ended p) Silent) (keeps p Silent)
+
+unfoldable pub timerTurned : Upload → Plan → (now : ℕ) → Turned
+timerTurned Idle p now = keeps p Silent
+timerTurned (Running r) p now =
+    cond (ltb (elapsed now (r .started)) expiryMs) (keeps p Silent)
+    (cond (ltb (r .repeats) maxRepeats) (keeps (withUpload p (Running (askedAgain r now))) (Ask (r .next)))
+    (keeps (ended p) (Ack cancelled 0)))
+
+-- ---- an item: the plan and the store after it
+
+pub record Took : Type 0 where
+  pub turned : Turned
+  pub store : Bytes
+
+abbrev pub took : Turned → Bytes → Took
+took t s = record { turned = t; store = s }
+
+-- the store with the item at the upload's next place
+abbrev pub stored : Bytes → (kind : ℕ) → Plan → Run → Item → Bytes
+stored s kind p r item = putAt s (not (p .half)) kind (r .next) (itemOf item)
+
+unfoldable pub takesItem : Bytes → (kind : ℕ) → Plan → Run → (now : ℕ) → Took
+takesItem s kind p r now =
+    cond (not (eqb (r .next + 1) (r .count))) (took (keeps (withUpload p (Running (tookOne r now))) (Ask (r .next + 1))) s)
+    (cond (wholeOk kind (itemsIn s (not (p .half)) kind (r .count))) (took (renews (replaced p (r .count)) (Ack accepted (nextNumber (p .number)))) s)
+    (took (keeps (ended p) (Ack invalid 0)) s))
+
+abbrev pub itemVerdict : Bytes → (kind : ℕ) → Plan → Run → Item → ℕ
+itemVerdict s kind p r item = fault kind (r .count) (r .next) (jumpsAmong (itemsIn s (not (p .half)) kind (r .next))) item
+
+unfoldable pub itemTook : Bytes → (kind : ℕ) → Upload → Plan → Station → (now : ℕ) → Item → Took
+itemTook s kind Idle p from now item = took (keeps p (Ack invalidSequence 0)) s
+itemTook s kind (Running r) p from now item =
+    cond (not (isFrom from r)) (took (keeps p (Ack denied 0)) s)
+    (cond (not (eqb (item .seq) (r .next))) (took (keeps p (Ask (r .next))) s)
+    (cond (not (eqb (itemVerdict s kind p r item) accepted)) (took (keeps (ended p) (Ack (itemVerdict s kind p r item) 0)) s)
+    (takesItem (stored s kind p r item) kind p r now)))

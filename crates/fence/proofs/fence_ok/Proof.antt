@@ -1,0 +1,114 @@
+-- The loop's invariant: the reading is that of the items passed. What it is at the end decides as the rules' own reading does, since a fence
+-- has fewer items than the numbers that the code reads.
+use mathlib.Core.Path.{_≡_, refl, _∙_, ap}
+use mathlib.Core.Bool.{Bool, not, _&&_}
+use Prim.Native.Nat.{ℕ, _+_, _-_, _≤_}
+use native.Mathlib.Omega.{arith}
+use native.Mathlib.Numerals.{add-one}
+use borrow.Author.Needs.{needs}
+use lib.Dec.{eqb, leb}
+use lib.Ieee.{Float}
+use Rattle.rules.specs.Limits.{fence, sizeOf, itemBytes, maxReturnPoints}
+use Rattle.rules.specs.Payload.{Bytes}
+use Rattle.rules.specs.Messages.{itemIn}
+use Rattle.rules.specs.Values.{float, wholeOf, wholeNumber}
+use Rattle.rules.specs.Items.{returnPoint}
+use Rattle.rules.specs.Fence.{between, runWith, fenceOk}
+use Rattle.item.specs.Wholes.{number31}
+use Rattle.fence.specs.declared.Reading.{Reading}
+use Rattle.plan.specs.Part.{part}
+use Rattle.plan.specs.Places.{itemAt, itemsIn, offsetOf, offset-within, length-items}
+use Rattle.plan.specs.Stored.{withCommand, points-are}
+use Rattle.fence.specs.FenceReading.{readingOf, readAs, readsAs, reads-more, ends-between}
+use Rattle.fence.proofs.fence_ok.Statement.{statement}
+use Rattle.fence.proofs.fence_ok.Tie as tie
+
+-- a turn of the loop, with the callees' answers as variables
+turned : (store : Bytes) (half : Bool) (i at command bits : ℕ) (x : Float) (m : ℕ) (r next : Reading)
+    → readingOf r ≡ readsAs between (itemsIn store half fence i)
+    → at ≡ offsetOf half fence i
+    → command ≡ itemIn (part store at itemBytes) .command
+    → bits ≡ itemIn (part store at itemBytes) .param1
+    → x ≡ float bits
+    → m ≡ number31 (wholeNumber (wholeOf x))
+    → readingOf next ≡ readAs (readingOf r) command m
+    → readingOf next ≡ readsAs between (itemsIn store half fence (i + 1))
+unfolding itemsIn itemAt
+turned store half i at command bits x m r next before place ec eb ex em en =
+    en ∙ rw (add-one i, reads-more between (itemsIn store half fence i) (itemAt store half fence i), before, em, ex, ec, eb, place)
+
+judged : (store : Bytes) (half : Bool) (n i points : ℕ) (r : Reading) → n ≤ sizeOf fence → i ≤ n → n ≤ i
+    → readingOf r ≡ readsAs between (itemsIn store half fence i)
+    → points ≡ withCommand returnPoint (itemsIn store half fence n)
+    → (not (r .broken) && eqb (r .left) 0 && leb points maxReturnPoints) ≡ fenceOk (itemsIn store half fence n)
+unfolding fenceOk
+judged store half n i points r within most least er ep =
+    let items = itemsIn store half fence n in
+    let read : readingOf r ≡ readsAs between items = er ∙ ap (λ (k : ℕ). readsAs between (itemsIn store half fence k)) (omega arith) in
+    rw (ends-between items r (omega (arith, length-items store half fence n)) read, ep, points-are items)
+
+abbrev Inv-loop : tie.InvT-loop
+Inv-loop store half n reading₀ i₀ reading i = (i ≤ n) × (readingOf reading ≡ readsAs between (itemsIn store half fence i))
+
+abbrev μ-loop : tie.MeasureT-loop
+μ-loop store half n reading₀ i₀ reading i = n - i
+
+loop-holds : tie.Need-loop-holds Inv-loop μ-loop
+unfolding readingOf runWith readsAs itemsIn
+loop-holds c = (omega arith, refl)
+
+place-at-requires : tie.Need-place-at-requires Inv-loop μ-loop
+place-at-requires c κs = omega arith
+
+command-at-requires : tie.Need-command-at-requires Inv-loop μ-loop
+command-at-requires c κs =
+    let a = c .before .before .before .before .args in
+    omega (arith, offset-within (a .half) fence (c .before .before .loop .i) (omega arith) (omega arith))
+
+param1-at-requires : tie.Need-param1-at-requires Inv-loop μ-loop
+param1-at-requires c κs =
+    let a = c .before .before .before .before .before .args in
+    omega (arith, offset-within (a .half) fence (c .before .before .before .loop .i) (omega arith) (omega arith))
+
+float-of-requires : tie.Need-float-of-requires Inv-loop μ-loop
+float-of-requires c κs = tt
+
+number-of-requires : tie.Need-number-of-requires Inv-loop μ-loop
+number-of-requires c κs = tt
+
+read-item-requires : tie.Need-read-item-requires Inv-loop μ-loop
+read-item-requires c κs = tt
+
+add-i : tie.Need-add-i Inv-loop μ-loop
+add-i c = omega arith
+
+loop-less : tie.Need-loop-less Inv-loop μ-loop
+loop-less c = omega arith
+
+loop-again : tie.Need-loop-again Inv-loop μ-loop
+loop-again c = (omega arith, search (turned, needs))
+
+with-command-requires : tie.Need-with-command-requires Inv-loop μ-loop
+with-command-requires c κs = search needs
+
+returns : tie.Need-returns Inv-loop μ-loop
+returns c = search (judged, needs)
+
+pub fence-ok-spec : {M : Type 1} → statement M
+fence-ok-spec =
+    tie.close
+    (tie.spec
+    Inv-loop
+    μ-loop
+    loop-holds
+    place-at-requires
+    command-at-requires
+    param1-at-requires
+    float-of-requires
+    number-of-requires
+    read-item-requires
+    add-i
+    loop-less
+    loop-again
+    with-command-requires
+    returns)

@@ -1,0 +1,100 @@
+// The rule on a whole fence, read from the items in the store.
+ghost use mathlib.Core.Path.{_≡_};
+ghost use Prim.Native.Nat.{_≤_};
+ghost use lib.ListN.{length};
+ghost use Rattle.rules.specs.Limits.{fence, sizeOf, storeBytes};
+ghost use Rattle.rules.specs.Fence.{fenceOk};
+ghost use Rattle.plan.specs.Places.{itemsIn};
+ghost use Rattle.fence.specs.FenceReading.{readingOf, readAs};
+use item::values::float_of;
+use item::values::number_of;
+use plan::FENCE;
+use plan::items::command_at;
+use plan::items::param1_at;
+use plan::items::with_command;
+use plan::places::place_at;
+
+const RETURN_POINT: u16 = 5000;
+
+const INCLUSION_VERTEX: u16 = 5001;
+
+const EXCLUSION_VERTEX: u16 = 5002;
+
+const MAX_RETURN_POINTS: u16 = 1;
+
+// Where the reading stands: the rule is broken, or `left` vertices of the open run are still to come, each with the command
+// and the number of vertices of its first.
+struct Reading {
+    broken: bool,
+    left: u32,
+    command: u16,
+    vertices: u32,
+}
+
+// Reading one more item.
+fn read_item(reading: Reading, command: u16, vertices: u32) -> Reading
+    ensures { λ r. ⌜ readingOf r ≡ readAs (readingOf reading) command vertices ⌝ }
+{
+    let vertex = (command == INCLUSION_VERTEX) | (command == EXCLUSION_VERTEX);
+    if reading.broken {
+        return reading;
+    }
+    if reading.left == 0 {
+        if !vertex {
+            return reading;
+        }
+        if vertices == 0 {
+            return Reading {
+                broken: true,
+                left: 0,
+                command: 0,
+                vertices: 0,
+            };
+        }
+        return Reading {
+            broken: false,
+            left: vertices - 1,
+            command,
+            vertices,
+        };
+    }
+    if vertex & (command == reading.command) & (vertices == reading.vertices) {
+        return Reading {
+            broken: false,
+            left: reading.left - 1,
+            command: reading.command,
+            vertices: reading.vertices,
+        };
+    }
+    Reading {
+        broken: true,
+        left: 0,
+        command: 0,
+        vertices: 0,
+    }
+}
+
+// Whether the first n fence items of a half keep the rule.
+pub fn fence_ok(store: &[u8], half: bool, n: u16) -> bool
+    requires { ⌜ (storeBytes ≤ length (now store)) × (n ≤ sizeOf fence) ⌝ }
+    ensures { λ r. ⌜ r ≡ fenceOk (itemsIn (now (store .entry)) half fence n) ⌝ }
+{
+    let mut reading = Reading {
+        broken: false,
+        left: 0,
+        command: 0,
+        vertices: 0,
+    };
+    let mut i: u16 = 0;
+    while i < n {
+        let at = place_at(FENCE, half, i);
+        reading = read_item(
+            reading,
+            command_at(store, at),
+            number_of(float_of(param1_at(store, at))),
+        );
+        i += 1;
+    }
+    let points = with_command(store, FENCE, half, n, RETURN_POINT);
+    !reading.broken & (reading.left == 0) & (points <= MAX_RETURN_POINTS)
+}

@@ -1,0 +1,195 @@
+-- The reading of a float as a whole number, for every float. A number is p / d in size, with p = m * up e and d = down e, and q = p / d is what
+-- is left of it without its fraction. Within 32 bits q is exact at binary64, so it equals the number there exactly if p % d is 0.
+use Prim.Native.Nat.{ℕ, zero, suc, _+_, _-_, _*_, _/_, _%_, _^_, _≤_, _<_, min}
+use mathlib.Core.Path.{_≡_, refl, sym, ap, _∙_, subst}
+use mathlib.Core.Bool.{Bool, true, false, not, cond, _&&_, _||_, Bool·beq, and-true, false≢true}
+use native.Mathlib.Nat.{mul-one, mul-right-comm, mul-lt-mul-of-pos-right, lt-of-mul-lt-mul-right, eq-of-mul-eq-mul-right, div-lt-iff-lt-mul, le-div-iff-mul-le, div-add-mod', min-eq-left, le-trans, zero-mul, zero-lt-suc}
+use native.Mathlib.Omega.{arith}
+use lib.IntN.{ℤ, pos, negsuc, negℤ}
+use lib.Signed.{mag}
+use lib.Dec.{T, eqb, ltb, leb}
+use lib.Ieee.{Float, nan, inf, fin, binary64, up, down, lt, le, eq, below, level, ofInt, toSigned}
+use lib.Ieee.Fits.{down-pos}
+use lib.Ieee.Exact.{HasValue}
+use lib.Ieee.Back.{round-whole}
+use borrow.Author.Tests.{lt-ltb, le-ltb, le-leb, lt-leb, eq-eqb, ne-eqb, ltb-true, ltb-false, leb-true, leb-false, eqb-true, eqb-false}
+use Rattle.rules.specs.Values.{wholeOf, integer, notWhole}
+use Rattle.item.specs.declared.values.Whole.{Whole}
+use Rattle.item.specs.declared.values.Whole.the-variants.{Integer, NotWhole}
+use Rattle.item.specs.Wholes.{whole32}
+use Rattle.item.proofs.NumberTests.{eqb-sym, le-or-eq, eqb-scaled}
+
+-- -2 ^ 31 and 2 ^ 31, and 2 ^ 31 as a number
+abbrev pub lowest : Float
+lowest = fin true 1 (pos 31)
+
+abbrev pub bound : Float
+bound = fin false 1 (pos 31)
+
+abbrev half : ℕ
+half = 2147483648
+
+-- the integer of a sign and a magnitude
+abbrev signing : Bool → ℕ → ℤ
+signing s q = cond s (negℤ (pos q)) (pos q)
+
+-- ---- within the range
+
+record Within (s : Bool) (q : ℕ) : Type 0 where
+  most : q ≤ half
+  fits : mag (signing s q) < half
+
+negative : (q : ℕ) → q ≤ half → mag (negℤ (pos q)) < half
+negative zero h = omega arith
+negative (suc q) h = omega arith
+
+-- `le lowest x` at a negative number
+at-most : (p d : ℕ) → (ltb (p * 1) (half * d) || (eqb (half * d) (p * 1) && true)) ≡ leb p (half * d)
+at-most p d =
+    ap (λ (t : Bool). ltb (p * 1) (half * d) || (t && true)) (eqb-sym (half * d) (p * 1))
+    ∙ le-or-eq (p * 1) (half * d)
+    ∙ ap (λ (k : ℕ). leb k (half * d)) (mul-one p)
+
+within : (s : Bool) (m : ℕ) (e : ℤ) → le lowest (fin s m e) ≡ true → lt (fin s m e) bound ≡ true → Within s (m * up e / down e)
+unfolding lt le eq
+within false m e l h =
+    let q = m * up e / down e in
+    let small : q < half = div-lt-iff-lt-mul (down-pos e) .1 (omega (arith, ltb-true (m * up e * 1) (half * down e) h)) in
+    record { most = omega arith; fits = small }
+within true m e l h =
+    let q = m * up e / down e in
+    let few : m * up e ≤ half * down e = leb-true (m * up e) (half * down e) (sym (at-most (m * up e) (down e)) ∙ l) in
+    let small : q < 1 + half = div-lt-iff-lt-mul (down-pos e) .1 (omega (arith, few, down-pos e)) in
+    record { most = omega arith; fits = negative q (omega arith) }
+
+capped : (q c : ℕ) → q ≤ half → half ≤ c → min q c ≡ q
+capped q c h k = min-eq-left (le-trans h k)
+
+-- cut toward zero
+cut-is : (s : Bool) (m : ℕ) (e : ℤ) → m * up e / down e ≤ half → toSigned 63 (fin s m e) ≡ signing s (m * up e / down e)
+unfolding toSigned
+cut-is true m e h = ap (λ (q : ℕ). negℤ (pos q)) (capped (m * up e / down e) (2 ^ 63) h (omega arith))
+cut-is false m e h = ap pos (capped (m * up e / down e) (2 ^ 63 - 1) h (omega arith))
+
+-- ---- exact at binary64
+
+-- the sign of an integer, as a float has it: no minus zero comes of one
+abbrev sign : Bool → ℕ → Bool
+sign s q = s && ltb 0 q
+
+as-float : (s : Bool) (q : ℕ) → q ≤ half → HasValue (ofInt binary64 (signing s q)) (sign s q) q 1
+unfolding ofInt
+as-float false q h = round-whole binary64 false q (omega arith)
+as-float true zero h = round-whole binary64 false 0 (omega arith)
+as-float true (suc q) h = subst (λ (t : Bool). HasValue (ofInt binary64 (negsuc q)) t (suc q) 1) (sym (lt-ltb 0 (suc q) (zero-lt-suc q))) (round-whole binary64 true (suc q) (omega arith))
+
+signs-level : (s : Bool) (q a : ℕ) → (q ≡ 0 → a ≡ 0) → (Bool·beq (sign s q) s || eqb a 0) ≡ true
+signs-level false q a z = refl
+signs-level true zero a z = eq-eqb a 0 (z refl)
+signs-level true (suc q) a z = rw (lt-ltb 0 (suc q) (zero-lt-suc q))
+
+nothing : (a b : ℕ) → 0 * a * b ≡ 0
+nothing a b = ap (λ (n : ℕ). n * b) (zero-mul a) ∙ zero-mul b
+
+-- a float that is q / 1 in size, and one of the same sign
+level-is : (y : Float) (s : Bool) (q m : ℕ) (e : ℤ) → HasValue y (sign s q) q 1 → eq y (fin s m e) ≡ eqb (q * down e) (m * up e)
+unfolding eq
+level-is (fin t k d) s q m e v =
+    let a = k * up d * down e in
+    let scaled : a ≡ q * down e * down d =
+    ap (λ (n : ℕ). n * down e) (sym (mul-one (k * up d)) ∙ v .1) ∙ mul-right-comm q (down d) (down e) in
+    ap (λ (u : Bool). eqb a (m * up e * down d) && (Bool·beq u s || eqb a 0)) (v .0)
+    ∙ ap (λ (b : Bool). eqb a (m * up e * down d) && b) (signs-level s q a (λ z. scaled ∙ ap (λ (n : ℕ). n * down e * down d) z ∙ nothing (down e) (down d)))
+    ∙ and-true (eqb a (m * up e * down d))
+    ∙ ap (λ (n : ℕ). eqb n (m * up e * down d)) scaled
+    ∙ eqb-scaled (q * down e) (m * up e) (down d) (down-pos d)
+
+-- nothing is cut off exactly if the remainder is 0
+exact : (p d : ℕ) → eqb (p / d * d) p ≡ eqb (p % d) 0
+exact p d = go (eqb (p % d) 0) refl (div-add-mod' p d)
+  where
+    go : (t : Bool) → eqb (p % d) 0 ≡ t → p / d * d + p % d ≡ p → eqb (p / d * d) p ≡ t
+    go true h w = eq-eqb (p / d * d) p (omega (arith, eqb-true (p % d) 0 h))
+    go false h w = ne-eqb (p / d * d) p (λ e. eqb-false (p % d) 0 h (omega arith))
+
+-- ---- the reading
+
+-- what `whole32` makes of a number in the range
+in-range : (t : Bool) (z : ℤ) → mag z < half → cond t (Integer z) NotWhole ≡ whole32 (cond t (integer z) notWhole)
+unfolding whole32
+in-range true z h = rw (lt-ltb (mag z) half h)
+in-range false z h = refl
+
+-- and of one that is beyond it where it is whole
+out-of-range : (t : Bool) (z : ℤ) → (t ≡ true → half ≤ mag z) → NotWhole ≡ whole32 (cond t (integer z) notWhole)
+unfolding whole32
+out-of-range true z h = rw (le-ltb (mag z) half (h refl))
+out-of-range false z h = refl
+
+pub cut-fits : (x : Float) → le lowest x ≡ true → lt x bound ≡ true → mag (toSigned 63 x) < half
+unfolding lt le eq
+cut-fits nan l h = absurd (false≢true l)
+cut-fits (inf true) l h = absurd (false≢true l)
+cut-fits (inf false) l h = absurd (false≢true h)
+cut-fits (fin s m e) l h =
+    let w = within s m e l h in
+    subst (λ (z : ℤ). mag z < half) (sym (cut-is s m e (w .most))) (w .fits)
+
+-- what `truncating_f32_to_i64` asks
+pub cut-defined : (x : Float) → le lowest x ≡ true → lt x bound ≡ true → T (le (fin true 1 (pos 63)) x) × T (lt x (fin false 1 (pos 63)))
+unfolding lt le eq
+cut-defined nan l h = absurd (false≢true l)
+cut-defined (inf true) l h = absurd (false≢true l)
+cut-defined (inf false) l h = absurd (false≢true h)
+cut-defined (fin false m e) l h =
+    let few : m * up e * 1 < half * down e = ltb-true (m * up e * 1) (half * down e) h in (
+      rw (lt-ltb 0 (2 ^ 63 * down e + m * up e * 1) (omega (arith, down-pos e))) tt,
+      rw (lt-ltb (m * up e * 1) (2 ^ 63 * down e) (omega (arith, few))) tt,
+    )
+cut-defined (fin true m e) l h =
+    let few : m * up e ≤ half * down e = leb-true (m * up e) (half * down e) (sym (at-most (m * up e) (down e)) ∙ l) in (
+      rw (lt-ltb (m * up e * 1) (2 ^ 63 * down e) (omega (arith, few, down-pos e))) tt,
+      rw (lt-ltb 0 (m * up e * 1 + 2 ^ 63 * down e) (omega (arith, down-pos e))) tt,
+    )
+
+pub reading : (x : Float) → le lowest x ≡ true → lt x bound ≡ true
+    → cond (eq (ofInt binary64 (toSigned 63 x)) x) (Integer (toSigned 63 x)) NotWhole ≡ whole32 (wholeOf x)
+unfolding lt le eq wholeOf
+reading nan l h = absurd (false≢true l)
+reading (inf true) l h = absurd (false≢true l)
+reading (inf false) l h = absurd (false≢true h)
+reading (fin s m e) l h =
+    let w = within s m e l h in
+    let q = m * up e / down e in
+    ap (λ (z : ℤ). cond (eq (ofInt binary64 z) (fin s m e)) (Integer z) NotWhole) (cut-is s m e (w .most))
+    ∙ ap (λ (t : Bool). cond t (Integer (signing s q)) NotWhole)
+    (level-is (ofInt binary64 (signing s q)) s q m e (as-float s q (w .most)) ∙ exact (m * up e) (down e))
+    ∙ in-range (eqb (m * up e % down e) 0) (signing s q) (w .fits)
+
+pub too-large : (x : Float) → lt x bound ≡ false → NotWhole ≡ whole32 (wholeOf x)
+unfolding lt wholeOf whole32
+too-large nan h = refl
+too-large (inf s) h = refl
+too-large (fin false m e) h =
+    out-of-range (eqb (m * up e % down e) 0) (pos (m * up e / down e))
+    (λ w. le-div-iff-mul-le (down-pos e) .1 (omega (arith, ltb-false (m * up e * 1) (half * down e) h)))
+too-large (fin true m e) h = absurd (omega (arith, ltb-false 0 (m * up e * 1 + half * down e) h, down-pos e))
+
+beyond : (q : ℕ) → half < q → half ≤ mag (negℤ (pos q))
+beyond zero h = absurd (omega arith)
+beyond (suc q) h = omega arith
+
+pub too-small : (x : Float) → le lowest x ≡ false → NotWhole ≡ whole32 (wholeOf x)
+unfolding lt le eq wholeOf whole32
+too-small nan h = refl
+too-small (inf s) h = refl
+too-small (fin false m e) h =
+    let more : 0 < half * down e + m * up e * 1 = omega (arith, down-pos e) in
+    let holds : le lowest (fin false m e) ≡ true = rw (lt-ltb 0 (half * down e + m * up e * 1) more) in
+    absurd (false≢true (sym h ∙ holds))
+too-small (fin true m e) h =
+    let p = m * up e in
+    let q = m * up e / down e in
+    let more : half * down e < p = leb-false p (half * down e) (sym (at-most p (down e)) ∙ h) in
+    out-of-range (eqb (p % down e) 0) (negℤ (pos q))
+    (λ w. beyond q (lt-of-mul-lt-mul-right (down e) (omega (arith, more, div-add-mod' p (down e), eqb-true (p % down e) 0 w))))

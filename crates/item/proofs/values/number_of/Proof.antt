@@ -1,0 +1,41 @@
+-- By the variant that `whole_of` returned: an integer is the rules' own, and no reading leaves no number of 31 bits.
+use mathlib.Core.Bool.{true, false}
+use Rattle.rules.specs.Values.{wholeOf}
+use Rattle.item.proofs.Integers.{cast-defined, number-is, no-number}
+use borrow.Author.Needs.{needs}
+use Rattle.item.proofs.values.number_of.Statement.{statement}
+use Rattle.item.proofs.values.number_of.Tie as tie
+
+whole-of-requires : tie.Need-whole-of-requires
+whole-of-requires c κs = search needs
+
+enum-known-n : tie.Need-enum-known-n
+enum-known-n c = search needs
+
+cast-result : tie.Need-cast-result
+cast-result c = cast-defined (c .before .before .n .given .0 .0) (search needs) (c .if1 .left)
+
+enum-told : tie.Need-enum-told
+enum-told c = search needs
+
+returns : tie.Need-returns
+returns c =
+    let known = c .before .before in
+    let read = known .before .before .whole-of in
+    number-is (wholeOf (known .before .before .before .args .x)) (known .n .given .0 .0) (read .result) (known .n .given .1) (read .ensures) (search needs)
+    true (c .if1 .taken)
+
+returns-2 : tie.Need-returns-2
+returns-2 c =
+    let known = c .before .before in
+    let read = known .before .before .whole-of in
+    number-is (wholeOf (known .before .before .before .args .x)) (known .n .given .0 .0) (read .result) (known .n .given .1) (read .ensures) (search needs)
+    false (c .if1 .left)
+
+returns-3 : tie.Need-returns-3
+returns-3 c = no-number (c .before .before .whole-of .result) (c .enum-told .given .1) (wholeOf (c .before .before .before .args .x)) (c .before .before .whole-of .ensures)
+
+pub number-of-spec : {M : Type 1} → statement M
+number-of-spec =
+    tie.close
+    (tie.spec whole-of-requires enum-known-n cast-result enum-told returns returns-2 returns-3)

@@ -1,0 +1,4 @@
+-- What the contracts of this crate cite besides the rules.
+pub mod Patterns
+pub mod Wholes
+pub mod Table

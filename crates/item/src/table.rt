@@ -1,0 +1,75 @@
+// The command table: for each command the kind it belongs to, whether it is positional, and what is asked of params 1 and 2.
+ghost use mathlib.Core.Path.{_≡_};
+ghost use Rattle.rules.specs.Items.{commands};
+ghost use Rattle.item.specs.Table.{lookedUp, lookup};
+
+pub const FLIGHT: u8 = 0;
+
+pub const FENCE: u8 = 1;
+
+pub const RALLY: u8 = 2;
+
+// What is asked of a param.
+pub enum ParamRule {
+    Anything,
+    Finite,
+    AtLeastZero,
+    AboveZero,
+    UpTo(u16),
+    // Whole, from the first number to the second.
+    Whole(i32, i32),
+    // Whole, at least 0, below the count, not the item's own number.
+    Target,
+}
+
+pub struct Row {
+    pub kind: u8,
+    pub positional: bool,
+    pub param1: ParamRule,
+    pub param2: ParamRule,
+}
+
+pub enum Listing {
+    Listed(Row),
+    NotListed,
+}
+
+fn listed_as(kind: u8, positional: bool, param1: ParamRule, param2: ParamRule) -> Listing
+    ensures { λ r. ⌜ r ≡ Listing.Listed (record { kind = kind; positional = positional; param1 = param1; param2 = param2 }) ⌝ }
+{
+    Listing::Listed(Row {
+        kind,
+        positional,
+        param1,
+        param2,
+    })
+}
+
+pub fn row_of(command: u16) -> Listing
+    ensures { λ r. ⌜ lookedUp command r ≡ lookup command commands ⌝ }
+{
+    match command {
+        16 | 18..=19 => listed_as(FLIGHT, true, ParamRule::AtLeastZero, ParamRule::Anything),
+        17 | 20..=22 | 31 => listed_as(FLIGHT, true, ParamRule::Anything, ParamRule::Anything),
+        112 | 114 => listed_as(FLIGHT, false, ParamRule::AtLeastZero, ParamRule::Anything),
+        115 => listed_as(FLIGHT, false, ParamRule::UpTo(360), ParamRule::Anything),
+        177 => listed_as(
+            FLIGHT,
+            false,
+            ParamRule::Target,
+            ParamRule::Whole(-1, 32767),
+        ),
+        178 => listed_as(FLIGHT, false, ParamRule::Anything, ParamRule::Finite),
+        183 => listed_as(
+            FLIGHT,
+            false,
+            ParamRule::Whole(1, 16),
+            ParamRule::Whole(500, 2500),
+        ),
+        5000 => listed_as(FENCE, true, ParamRule::Anything, ParamRule::Anything),
+        5001..=5002 => listed_as(FENCE, true, ParamRule::Whole(3, 64), ParamRule::Anything),
+        5003..=5004 => listed_as(FENCE, true, ParamRule::AboveZero, ParamRule::Anything),
+        5100 => listed_as(RALLY, true, ParamRule::Anything, ParamRule::Anything),
+        _ => Listing::NotListed,
+    }
+}

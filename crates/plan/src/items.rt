@@ -1,0 +1,102 @@
+// Items in the store: storing one, fetching one, reading two of its fields, and counting jumps.
+ghost use mathlib.Core.Path.{_≡_};
+ghost use Prim.Native.Nat.{_+_, _≤_, _<_};
+ghost use lib.ListN.{length};
+ghost use Rattle.rules.specs.Limits.{rally, sizeOf, byteValues, itemBytes, storeBytes};
+ghost use Rattle.rules.specs.Payload.{numberAt};
+ghost use Rattle.rules.specs.Messages.{itemIn};
+ghost use Rattle.rules.specs.Items.{jumpsAmong};
+ghost use Rattle.plan.specs.Part.{part, put};
+ghost use Rattle.plan.specs.Places.{itemsIn};
+ghost use Rattle.plan.specs.Stored.{withCommand};
+use super::places::ITEM_BYTES;
+use super::places::place_at;
+
+const COMMAND: usize = 30;
+
+const JUMP: u16 = 177;
+
+// The 38 bytes from `at` become an item's; every other byte stays.
+pub fn put_item(store: &mut [u8], at: usize, bytes: [u8; 38])
+    requires { ⌜ at + itemBytes ≤ length (now store) ⌝ }
+    ensures { λ r. ⌜ now (store .exit) ≡ put (now (store .entry)) at bytes ⌝ }
+{
+    let mut i: usize = 0;
+    while i < ITEM_BYTES {
+        store[at + i] = bytes[i];
+        i += 1;
+    }
+}
+
+pub fn item_at(store: &[u8], at: usize) -> [u8; 38]
+    requires { ⌜ at + itemBytes ≤ length (now store) ⌝ }
+    ensures { λ r. ⌜ r ≡ part (now (store .entry)) at itemBytes ⌝ }
+{
+    let mut bytes = [0u8; 38];
+    let mut i: usize = 0;
+    while i < ITEM_BYTES {
+        bytes[i] = store[at + i];
+        i += 1;
+    }
+    bytes
+}
+
+fn wide(byte: u8) -> u16
+    ensures { λ r. ⌜ (r ≡ byte) × (r < byteValues) ⌝ }
+{
+    byte as u16
+}
+
+fn wider(half: u16) -> u32
+    ensures { λ r. ⌜ r ≡ half ⌝ }
+{
+    half as u32
+}
+
+// The number in the two bytes from `at`, lowest first.
+fn pair_at(store: &[u8], at: usize) -> u16
+    requires { ⌜ at + 1 < length (now store) ⌝ }
+    ensures { λ r. ⌜ r ≡ numberAt 2 at (now (store .entry)) ⌝ }
+{
+    wide(store[at]) + wide(store[at + 1]) * 256
+}
+
+// The command of the item that begins at `at`.
+pub fn command_at(store: &[u8], at: usize) -> u16
+    requires { ⌜ at + itemBytes ≤ length (now store) ⌝ }
+    ensures { λ r. ⌜ r ≡ itemIn (part (now (store .entry)) at itemBytes) .command ⌝ }
+{
+    pair_at(store, at + COMMAND)
+}
+
+// The bit pattern of its param 1, the first field.
+pub fn param1_at(store: &[u8], at: usize) -> u32
+    requires { ⌜ at + itemBytes ≤ length (now store) ⌝ }
+    ensures { λ r. ⌜ r ≡ itemIn (part (now (store .entry)) at itemBytes) .param1 ⌝ }
+{
+    wider(pair_at(store, at)) + wider(pair_at(store, at + 2)) * 65536
+}
+
+// How many of the first n items of a kind in a half have a command.
+pub fn with_command(store: &[u8], kind: u8, half: bool, n: u16, command: u16) -> u16
+    requires { ⌜ (storeBytes ≤ length (now store)) × (kind ≤ rally) × (n ≤ sizeOf kind) ⌝ }
+    ensures { λ r. ⌜ r ≡ withCommand command (itemsIn (now (store .entry)) half kind n) ⌝ }
+{
+    let mut count: u16 = 0;
+    let mut i: u16 = 0;
+    while i < n {
+        if command_at(store, place_at(kind, half, i)) == command {
+            count += 1;
+        }
+        i += 1;
+    }
+    count
+}
+
+// How many of them are jumps.
+pub fn jumps(store: &[u8], kind: u8, half: bool, n: u16) -> u16
+    requires { ⌜ (storeBytes ≤ length (now store)) × (kind ≤ rally) × (n ≤ sizeOf kind) ⌝ }
+    ensures { λ r. ⌜ r ≡ jumpsAmong (itemsIn (now (store .entry)) half kind n) ⌝ }
+{
+    with_command(store, kind, half, n, JUMP)
+}

@@ -1,0 +1,67 @@
+-- `reply::bytes::item_bytes` meets its contract: each field is its own bytes, in the layout's order.
+use Prim.Native.Nat.{_<_}
+use mathlib.Core.List.{[], _++_}
+use Rattle.rules.specs.Layouts.{layoutOf, pack}
+use Rattle.rules.specs.Messages.{encode}
+use Rattle.reply.proofs.Packing.{one-byte}
+use borrow.Author.Needs.{needs}
+use Rattle.reply.proofs.bytes.item_bytes.Statement.{statement}
+use Rattle.reply.proofs.bytes.item_bytes.Tie as tie
+
+bytes32-requires : tie.Need-bytes32-requires
+bytes32-requires c κs = search needs
+
+bytes32-requires-2 : tie.Need-bytes32-requires-2
+bytes32-requires-2 c κs = search needs
+
+bytes32-requires-3 : tie.Need-bytes32-requires-3
+bytes32-requires-3 c κs = search needs
+
+bytes32-requires-4 : tie.Need-bytes32-requires-4
+bytes32-requires-4 c κs = search needs
+
+bytes32-requires-5 : tie.Need-bytes32-requires-5
+bytes32-requires-5 c κs = search needs
+
+bytes32-requires-6 : tie.Need-bytes32-requires-6
+bytes32-requires-6 c κs = search needs
+
+bytes32-requires-7 : tie.Need-bytes32-requires-7
+bytes32-requires-7 c κs = search needs
+
+bytes16-requires : tie.Need-bytes16-requires
+bytes16-requires c κs = search needs
+
+bytes16-requires-2 : tie.Need-bytes16-requires-2
+bytes16-requires-2 c κs = search needs
+
+fits : (c : tie.Start) → (c .args .system < 256) × (c .args .component < 256) × (c .args .patterns .frame < 256) × (c .args .current < 256) × (c .args .patterns .autocontinue < 256) × (c .args .patterns .kind < 256)
+fits c = (search needs, search needs, search needs, search needs, search needs, search needs)
+
+returns : tie.Need-returns
+unfolding encode layoutOf pack
+returns c =
+    let a = c .before .before .before .before .before .before .before .before .before .args in
+    let fit = fits (c .before .before .before .before .before .before .before .before .before) in
+    let system = one-byte (a .system) (fit .0) in
+    let component = one-byte (a .component) (fit .1) in
+    let frame = one-byte (a .patterns .frame) (fit .2) in
+    let current = one-byte (a .current) (fit .3) in
+    let autocontinue = one-byte (a .patterns .autocontinue) (fit .4) in
+    let kind = one-byte (a .patterns .kind) (fit .5) in
+    λ i. (c .before .before .before .before .before .before .before .before .bytes32 .ensures) i ++ ((c .before .before .before .before .before .before .before .bytes322 .ensures) i ++ ((c .before .before .before .before .before .before .bytes323 .ensures) i ++ ((c .before .before .before .before .before .bytes324 .ensures) i ++ ((c .before .before .before .before .bytes325 .ensures) i ++ ((c .before .before .before .bytes326 .ensures) i ++ ((c .before .before .bytes327 .ensures) i ++ ((c .before .bytes16 .ensures) i ++ ((c .bytes162 .ensures) i ++ (system i ++ (component i ++ (frame i ++ (current i ++ (autocontinue i ++ (kind i ++ []))))))))))))))
+
+pub item-bytes-spec : {M : Type 1} → statement M
+item-bytes-spec =
+    tie.close
+    (tie.spec
+    bytes32-requires
+    bytes32-requires-2
+    bytes32-requires-3
+    bytes32-requires-4
+    bytes32-requires-5
+    bytes32-requires-6
+    bytes32-requires-7
+    bytes16-requires
+    bytes16-requires-2
+    returns)

@@ -1,0 +1,190 @@
+// The bytes of each message, all of them, little-endian.
+ghost use mathlib.Core.Path.{_≡_};
+ghost use mathlib.Core.List.{[], _∷_};
+ghost use Rattle.rules.specs.Payload.{bytesOf};
+ghost use Rattle.rules.specs.Step.{refusalText};
+ghost use Rattle.rules.specs.Messages.{station, itemInt, encode};
+ghost use Rattle.wire.specs.Structs.{currentMessage, countMessage, ackMessage, requestIntMessage, patternsItem, statustextMessage};
+use crate::trim::copy;
+use wire::Ack;
+use wire::Count;
+use wire::Current;
+use wire::Patterns;
+use wire::RequestInt;
+use wire::Statustext;
+
+// A number's bytes, lowest first.
+pub struct Two(pub u8, pub u8);
+
+pub struct Four(pub u8, pub u8, pub u8, pub u8);
+
+fn bytes16(n: u16) -> Two
+    ensures { λ r. ⌜ r .0 ∷ r .1 ∷ [] ≡ bytesOf 2 n ⌝ }
+{
+    Two((n % 256) as u8, (n / 256 % 256) as u8)
+}
+
+fn bytes32(n: u32) -> Four
+    ensures { λ r. ⌜ r .0 ∷ r .1 ∷ r .2 ∷ r .3 ∷ [] ≡ bytesOf 4 n ⌝ }
+{
+    Four(
+        (n % 256) as u8,
+        (n / 256 % 256) as u8,
+        (n / 256 / 256 % 256) as u8,
+        (n / 256 / 256 / 256 % 256) as u8,
+    )
+}
+
+pub fn current_bytes(m: Current) -> [u8; 18]
+    ensures { λ r. ⌜ r ≡ encode (currentMessage m) ⌝ }
+{
+    let seq = bytes16(m.seq);
+    let total = bytes16(m.total);
+    let a = bytes32(m.mission);
+    let b = bytes32(m.fence);
+    let c = bytes32(m.rally);
+    [
+        seq.0,
+        seq.1,
+        total.0,
+        total.1,
+        m.state,
+        m.mode,
+        a.0,
+        a.1,
+        a.2,
+        a.3,
+        b.0,
+        b.1,
+        b.2,
+        b.3,
+        c.0,
+        c.1,
+        c.2,
+        c.3,
+    ]
+}
+
+pub fn count_bytes(m: Count) -> [u8; 9]
+    ensures { λ r. ⌜ r ≡ encode (countMessage m) ⌝ }
+{
+    let count = bytes16(m.count);
+    let number = bytes32(m.number);
+    [
+        count.0,
+        count.1,
+        m.system,
+        m.component,
+        m.kind,
+        number.0,
+        number.1,
+        number.2,
+        number.3,
+    ]
+}
+
+pub fn ack_bytes(m: Ack) -> [u8; 8]
+    ensures { λ r. ⌜ r ≡ encode (ackMessage m) ⌝ }
+{
+    let number = bytes32(m.number);
+    [
+        m.system,
+        m.component,
+        m.result,
+        m.kind,
+        number.0,
+        number.1,
+        number.2,
+        number.3,
+    ]
+}
+
+pub fn request_int_bytes(m: RequestInt) -> [u8; 5]
+    ensures { λ r. ⌜ r ≡ encode (requestIntMessage m) ⌝ }
+{
+    let seq = bytes16(m.seq);
+    [seq.0, seq.1, m.system, m.component, m.kind]
+}
+
+// The 38 bytes of ITEM_INT, also those of a stored item, whose system, component and current are 0.
+pub fn item_bytes(system: u8, component: u8, current: u8, patterns: Patterns) -> [u8; 38]
+    ensures { λ r. ⌜ r ≡ encode (itemInt (station system component) current (patternsItem patterns)) ⌝ }
+{
+    let a = bytes32(patterns.bits1);
+    let b = bytes32(patterns.bits2);
+    let c = bytes32(patterns.bits3);
+    let d = bytes32(patterns.bits4);
+    let x = bytes32(patterns.bits_x);
+    let y = bytes32(patterns.bits_y);
+    let z = bytes32(patterns.bits_z);
+    let seq = bytes16(patterns.seq);
+    let command = bytes16(patterns.command);
+    [
+        a.0,
+        a.1,
+        a.2,
+        a.3,
+        b.0,
+        b.1,
+        b.2,
+        b.3,
+        c.0,
+        c.1,
+        c.2,
+        c.3,
+        d.0,
+        d.1,
+        d.2,
+        d.3,
+        x.0,
+        x.1,
+        x.2,
+        x.3,
+        y.0,
+        y.1,
+        y.2,
+        y.3,
+        z.0,
+        z.1,
+        z.2,
+        z.3,
+        seq.0,
+        seq.1,
+        command.0,
+        command.1,
+        system,
+        component,
+        patterns.frame,
+        current,
+        patterns.autocontinue,
+        patterns.kind,
+    ]
+}
+
+pub fn statustext_bytes(m: Statustext) -> [u8; 54]
+    ensures { λ r. ⌜ r ≡ encode (statustextMessage m) ⌝ }
+{
+    let text = m.text;
+    let id = bytes16(m.id);
+    let mut all = [0u8; 54];
+    all[0] = m.severity;
+    all[51] = id.0;
+    all[52] = id.1;
+    all[53] = m.chunk;
+    copy(&text, 50, &mut all, 1);
+    all
+}
+
+// The STATUSTEXT that answers a SET_CURRENT of an item that is not there: a warning, id and chunk 0.
+pub fn no_such_item() -> Statustext
+    ensures { λ r. ⌜ statustextMessage r ≡ refusalText ⌝ }
+{
+    let mut text = [0u8; 50];
+    copy(b"no such mission item", 20, &mut text, 0);
+    Statustext {
+        severity: 4,
+        text,
+        id: 0,
+        chunk: 0,
+    }
+}

@@ -1,0 +1,69 @@
+// Writing each message into a lent buffer: the trimmed payload at its start, the rest unchanged, the length answered.
+ghost use Prim.Native.Nat.{_≤_};
+ghost use lib.ListN.{length};
+ghost use Rattle.rules.specs.Limits.{replyBytesMin};
+ghost use Rattle.rules.specs.Messages.{encode};
+ghost use Rattle.wire.specs.Structs.{currentMessage, countMessage, ackMessage, requestIntMessage, itemIntMessage, statustextMessage};
+ghost use Rattle.reply.specs.Written.{Written};
+use crate::bytes::ack_bytes;
+use crate::bytes::count_bytes;
+use crate::bytes::current_bytes;
+use crate::bytes::item_bytes;
+use crate::bytes::request_int_bytes;
+use crate::bytes::statustext_bytes;
+use crate::trim::write_trimmed;
+use wire::Ack;
+use wire::Count;
+use wire::Current;
+use wire::ItemInt;
+use wire::RequestInt;
+use wire::Statustext;
+
+pub fn write_current(m: Current, out: &mut [u8]) -> usize
+    requires { ⌜ replyBytesMin ≤ length (now out) ⌝ }
+    ensures { λ r. ⌜ Written (encode (currentMessage m)) (now (out .entry)) (now (out .exit)) r ⌝ }
+{
+    let bytes = current_bytes(m);
+    write_trimmed(42, &bytes, out)
+}
+
+pub fn write_count(m: Count, out: &mut [u8]) -> usize
+    requires { ⌜ replyBytesMin ≤ length (now out) ⌝ }
+    ensures { λ r. ⌜ Written (encode (countMessage m)) (now (out .entry)) (now (out .exit)) r ⌝ }
+{
+    let bytes = count_bytes(m);
+    write_trimmed(44, &bytes, out)
+}
+
+pub fn write_ack(m: Ack, out: &mut [u8]) -> usize
+    requires { ⌜ replyBytesMin ≤ length (now out) ⌝ }
+    ensures { λ r. ⌜ Written (encode (ackMessage m)) (now (out .entry)) (now (out .exit)) r ⌝ }
+{
+    let bytes = ack_bytes(m);
+    write_trimmed(47, &bytes, out)
+}
+
+pub fn write_request_int(m: RequestInt, out: &mut [u8]) -> usize
+    requires { ⌜ replyBytesMin ≤ length (now out) ⌝ }
+    ensures { λ r. ⌜ Written (encode (requestIntMessage m)) (now (out .entry)) (now (out .exit)) r ⌝ }
+{
+    let bytes = request_int_bytes(m);
+    write_trimmed(51, &bytes, out)
+}
+
+pub fn write_item_int(m: ItemInt, out: &mut [u8]) -> usize
+    requires { ⌜ replyBytesMin ≤ length (now out) ⌝ }
+    ensures { λ r. ⌜ Written (encode (itemIntMessage m)) (now (out .entry)) (now (out .exit)) r ⌝ }
+{
+    let patterns = m.patterns;
+    let bytes = item_bytes(m.system, m.component, m.current, patterns);
+    write_trimmed(73, &bytes, out)
+}
+
+pub fn write_statustext(m: Statustext, out: &mut [u8]) -> usize
+    requires { ⌜ replyBytesMin ≤ length (now out) ⌝ }
+    ensures { λ r. ⌜ Written (encode (statustextMessage m)) (now (out .entry)) (now (out .exit)) r ⌝ }
+{
+    let bytes = statustext_bytes(m);
+    write_trimmed(253, &bytes, out)
+}

@@ -1,0 +1,3 @@
+-- What the contracts of reading and writing cite beside the rules.
+pub mod Table
+pub mod Structs

@@ -1,0 +1,57 @@
+-- The rules' message that each struct stands for.
+use Rattle.rules.specs.Messages as rules
+use Rattle.rules.specs.Messages.{Message, station}
+use Rattle.wire.specs.declared.messages.SetCurrent.{SetCurrent}
+use Rattle.wire.specs.declared.messages.Current.{Current}
+use Rattle.wire.specs.declared.messages.RequestList.{RequestList}
+use Rattle.wire.specs.declared.messages.Count.{Count}
+use Rattle.wire.specs.declared.messages.ClearAll.{ClearAll}
+use Rattle.wire.specs.declared.messages.Ack.{Ack}
+use Rattle.wire.specs.declared.messages.RequestInt.{RequestInt}
+use Rattle.wire.specs.declared.messages.Patterns.{Patterns}
+use Rattle.wire.specs.declared.messages.ItemInt.{ItemInt}
+use Rattle.wire.specs.declared.messages.Statustext.{Statustext}
+
+abbrev pub setCurrentMessage : SetCurrent → Message
+setCurrentMessage m = rules.setCurrent (station (m .system) (m .component)) (m .seq)
+
+abbrev pub currentMessage : Current → Message
+currentMessage m = rules.current (m .seq) (m .total) (m .state) (m .mode) (m .mission) (m .fence) (m .rally)
+
+abbrev pub requestListMessage : RequestList → Message
+requestListMessage m = rules.requestList (station (m .system) (m .component)) (m .kind)
+
+abbrev pub countMessage : Count → Message
+countMessage m = rules.count (station (m .system) (m .component)) (m .count) (m .kind) (m .number)
+
+abbrev pub clearAllMessage : ClearAll → Message
+clearAllMessage m = rules.clearAll (station (m .system) (m .component)) (m .kind)
+
+abbrev pub ackMessage : Ack → Message
+ackMessage m = rules.ack (station (m .system) (m .component)) (m .result) (m .kind) (m .number)
+
+abbrev pub requestIntMessage : RequestInt → Message
+requestIntMessage m = rules.requestInt (station (m .system) (m .component)) (m .seq) (m .kind)
+
+abbrev pub patternsItem : Patterns → rules.Item
+patternsItem p =
+    record {
+      param1 = p .bits1;
+      param2 = p .bits2;
+      param3 = p .bits3;
+      param4 = p .bits4;
+      x = p .«bits_x»;
+      y = p .«bits_y»;
+      z = p .«bits_z»;
+      seq = p .seq;
+      command = p .command;
+      frame = p .frame;
+      autocontinue = p .autocontinue;
+      kind = p .kind;
+    }
+
+abbrev pub itemIntMessage : ItemInt → Message
+itemIntMessage m = rules.itemInt (station (m .system) (m .component)) (m .current) (patternsItem (m .patterns))
+
+abbrev pub statustextMessage : Statustext → Message
+statustextMessage m = rules.statustext (m .severity) (m .text) (m .id) (m .chunk)

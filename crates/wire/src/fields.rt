@@ -1,0 +1,40 @@
+// The fields of a payload of any length, little-endian: missing bytes are zero.
+ghost use mathlib.Core.Path.{_≡_};
+ghost use Prim.Native.Nat.{_<_};
+ghost use lib.ListN.{getD};
+ghost use Rattle.rules.specs.Payload.{numberAt};
+
+// The byte at an offset.
+pub fn byte_at(p: &[u8], at: usize) -> u8
+    ensures { λ r. ⌜ r ≡ getD (now (p .entry)) at 0 ⌝ }
+{
+    if at < p.len() { p[at] } else { 0 }
+}
+
+fn wide16(b: u8) -> u16
+    ensures { λ r. ⌜ r ≡ b ⌝ }
+{
+    b as u16
+}
+
+fn wide32(n: u16) -> u32
+    ensures { λ r. ⌜ r ≡ n ⌝ }
+{
+    n as u32
+}
+
+// The 16-bit number at an offset.
+pub fn u16_at(p: &[u8], at: usize) -> u16
+    requires { ⌜ at < 65536 ⌝ }
+    ensures { λ r. ⌜ r ≡ numberAt 2 at (now (p .entry)) ⌝ }
+{
+    wide16(byte_at(p, at)) + 256 * wide16(byte_at(p, at + 1))
+}
+
+// The 32-bit number at an offset, also the bit pattern of a float or a signed number.
+pub fn u32_at(p: &[u8], at: usize) -> u32
+    requires { ⌜ at < 65000 ⌝ }
+    ensures { λ r. ⌜ r ≡ numberAt 4 at (now (p .entry)) ⌝ }
+{
+    wide32(u16_at(p, at)) + 65536 * wide32(u16_at(p, at + 2))
+}

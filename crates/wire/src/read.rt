@@ -1,0 +1,121 @@
+// Reading: each message of a payload of any length, by the table's full length and the fields' offsets.
+ghost use mathlib.Core.Path.{_≡_};
+ghost use Rattle.rules.specs.Layouts.{setCurrentId, requestListId, countId, clearAllId, ackId, requestIntId, itemIntId};
+ghost use Rattle.rules.specs.Messages.{decode, itemIn};
+ghost use Rattle.wire.specs.Structs.{setCurrentMessage, requestListMessage, countMessage, clearAllMessage, ackMessage, requestIntMessage, itemIntMessage, patternsItem};
+use crate::fields::byte_at;
+use crate::fields::u16_at;
+use crate::fields::u32_at;
+use crate::messages::Ack;
+use crate::messages::ClearAll;
+use crate::messages::Count;
+use crate::messages::ItemInt;
+use crate::messages::Patterns;
+use crate::messages::RequestInt;
+use crate::messages::RequestList;
+use crate::messages::SetCurrent;
+use crate::table::own_part;
+
+pub fn read_set_current(p: &[u8]) -> SetCurrent
+    ensures { λ r. ⌜ setCurrentMessage r ≡ decode setCurrentId (now (p .entry)) ⌝ }
+{
+    let own = own_part(41, p);
+    SetCurrent {
+        seq: u16_at(own, 0),
+        system: byte_at(own, 2),
+        component: byte_at(own, 3),
+    }
+}
+
+pub fn read_request_list(p: &[u8]) -> RequestList
+    ensures { λ r. ⌜ requestListMessage r ≡ decode requestListId (now (p .entry)) ⌝ }
+{
+    let own = own_part(43, p);
+    RequestList {
+        system: byte_at(own, 0),
+        component: byte_at(own, 1),
+        kind: byte_at(own, 2),
+    }
+}
+
+pub fn read_count(p: &[u8]) -> Count
+    ensures { λ r. ⌜ countMessage r ≡ decode countId (now (p .entry)) ⌝ }
+{
+    let own = own_part(44, p);
+    Count {
+        count: u16_at(own, 0),
+        system: byte_at(own, 2),
+        component: byte_at(own, 3),
+        kind: byte_at(own, 4),
+        number: u32_at(own, 5),
+    }
+}
+
+pub fn read_clear_all(p: &[u8]) -> ClearAll
+    ensures { λ r. ⌜ clearAllMessage r ≡ decode clearAllId (now (p .entry)) ⌝ }
+{
+    let own = own_part(45, p);
+    ClearAll {
+        system: byte_at(own, 0),
+        component: byte_at(own, 1),
+        kind: byte_at(own, 2),
+    }
+}
+
+pub fn read_ack(p: &[u8]) -> Ack
+    ensures { λ r. ⌜ ackMessage r ≡ decode ackId (now (p .entry)) ⌝ }
+{
+    let own = own_part(47, p);
+    Ack {
+        system: byte_at(own, 0),
+        component: byte_at(own, 1),
+        result: byte_at(own, 2),
+        kind: byte_at(own, 3),
+        number: u32_at(own, 4),
+    }
+}
+
+pub fn read_request_int(p: &[u8]) -> RequestInt
+    ensures { λ r. ⌜ requestIntMessage r ≡ decode requestIntId (now (p .entry)) ⌝ }
+{
+    let own = own_part(51, p);
+    RequestInt {
+        seq: u16_at(own, 0),
+        system: byte_at(own, 2),
+        component: byte_at(own, 3),
+        kind: byte_at(own, 4),
+    }
+}
+
+// The item in a payload of ITEM_INT, or in the 38 bytes of a stored item.
+pub fn patterns_at(p: &[u8]) -> Patterns
+    ensures { λ r. ⌜ patternsItem r ≡ itemIn (now (p .entry)) ⌝ }
+{
+    Patterns {
+        bits1: u32_at(p, 0),
+        bits2: u32_at(p, 4),
+        bits3: u32_at(p, 8),
+        bits4: u32_at(p, 12),
+        bits_x: u32_at(p, 16),
+        bits_y: u32_at(p, 20),
+        bits_z: u32_at(p, 24),
+        seq: u16_at(p, 28),
+        command: u16_at(p, 30),
+        frame: byte_at(p, 34),
+        autocontinue: byte_at(p, 36),
+        kind: byte_at(p, 37),
+    }
+}
+
+pub fn read_item_int(p: &[u8]) -> ItemInt
+    ensures { λ r. ⌜ itemIntMessage r ≡ decode itemIntId (now (p .entry)) ⌝ }
+{
+    let own = own_part(73, p);
+    let patterns = patterns_at(own);
+    ItemInt {
+        system: byte_at(own, 32),
+        component: byte_at(own, 33),
+        current: byte_at(own, 35),
+        patterns,
+    }
+}
