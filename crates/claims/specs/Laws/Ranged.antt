@@ -15,7 +15,7 @@ use Rattle.rules.specs.Calls.{isKnown}
 use Rattle.rules.specs.Step.{Stepped, withUpload, idleAt}
 use Rattle.rules.specs.Laws.Tests.{both, either}
 use Rattle.rules.specs.Laws.Kinds.{each-kind, kindRanged, ranged-kind}
-use Rattle.claims.specs.Laws.Lists.{at-set}
+use Rattle.rules.specs.Laws.Lists.{at-set}
 
 -- three plans, three uploads, every number in its range
 pub record Formed (m : Model) : Type 0 where

@@ -17,7 +17,8 @@ use Rattle.rules.specs.Step.{Answer, silent, Stepped, stays, withUpload, ended,
 use Rattle.rules.specs.Laws.Tests.{both, either}
 use Rattle.rules.specs.Laws.Kinds.{each-kind}
 use Rattle.claims.specs.Uploads.{letIn, actsOn, acts}
-use Rattle.claims.specs.Laws.Lists.{at-set, same-self, same-station}
+use Rattle.rules.specs.Laws.Lists.{at-set}
+use Rattle.claims.specs.Laws.Lists.{same-self, same-station}
 use Rattle.claims.specs.Laws.Ranged.{Formed, known-below}
 use Rattle.claims.specs.Laws.Kept.{HeardKnown, unknown-idle}
 

@@ -3,12 +3,15 @@ use Prim.Native.Nat.{ℕ, zero, suc, _+_, _^_, _<_}
 use mathlib.Core.Path.{_≡_, refl, sym, ap, ap₂, subst, _∙_}
 use mathlib.Core.List.{List, [], _∷_, _++_, append-assoc, append-nil}
 use mathlib.Core.Bool.{Bool, true, false, cond, _&&_}
-use lib.ListN.{length, getD, length-append}
+use native.Mathlib.Nat.{add-zero, zero-add}
+use native.Mathlib.Omega.{arith}
+use lib.ListN.{length, getD, drop, length-append}
 use lib.Dec.{eqb}
 use borrow.Author.Tests.{eqb-true}
-use Rattle.rules.specs.Limits.{byteValues}
+use Rattle.rules.specs.Limits.{byteValues, itemBytes}
 use Rattle.rules.specs.Payload.{Bytes, numberAt, bytesOf}
 use Rattle.rules.specs.Layouts.{Field, Layout, layouts, layoutOf, find, values, pack}
+use Rattle.rules.specs.Messages.{station, Item, Message, itemInt, idOf, valuesOf, encode, itemOf}
 use Rattle.rules.specs.Laws.Tests.{both}
 use Rattle.rules.specs.Laws.Numbers.{length-bytesOf, numberAt-agree, numberAt-fits, numberAt-bytesOf}
 
@@ -69,3 +72,21 @@ pub values-fit : (fs : List Field) (p : Bytes) → ((i : ℕ) → getD p i 0 < b
 unfolding values
 values-fit [] p small = tt
 values-fit (f ∷ fs) p small = (numberAt-fits (f .size) (f .at) p small, values-fit fs p small)
+
+-- what is packed has the full length
+pub length-pack : (at full : ℕ) (fs : List Field) (vs : List ℕ) → follow at full fs ≡ true → at + length (pack fs vs) ≡ full
+unfolding pack
+length-pack at full [] vs e = add-zero at ∙ eqb-true at full e
+length-pack at full (f ∷ fs) vs e =
+    let parts = both (eqb (f .at) at) (follow (at + f .size) full fs) e in
+    let b = bytesOf (f .size) (getD vs 0 0) in
+    let rest = length-pack (at + f .size) full fs (drop 1 vs) (parts .1) in
+    omega (arith, length-append b (pack fs (drop 1 vs)), length-bytesOf (f .size) (getD vs 0 0))
+
+pub length-encode : (m : Message) → length (encode m) ≡ layoutOf (idOf m) .full
+unfolding encode
+length-encode m = sym (zero-add (length (pack (layoutOf (idOf m) .fields) (valuesOf m)))) ∙ length-pack 0 (layoutOf (idOf m) .full) (layoutOf (idOf m) .fields) (valuesOf m) (layouts-follow (idOf m))
+
+pub length-itemOf : (item : Item) → length (itemOf item) ≡ itemBytes
+unfolding itemOf layoutOf
+length-itemOf item = length-encode (itemInt (station 0 0) 0 item)

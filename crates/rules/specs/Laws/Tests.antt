@@ -10,3 +10,9 @@ both false b e = absurd (true≢false (sym e))
 pub either : {A : Type 0} (P : A → Type 0) (t : Bool) {x y : A} → (t ≡ true → P x) → (t ≡ false → P y) → P (cond t x y)
 either P true p q = p refl
 either P false p q = q refl
+
+-- the same of two conditions with one test
+pub either₂ :
+    {A B : Type 0} (P : A → B → Type 0) (t : Bool) {x y : A} {u v : B} → (t ≡ true → P x u) → (t ≡ false → P y v) → P (cond t x y) (cond t u v)
+either₂ P true p q = p refl
+either₂ P false p q = q refl
