@@ -11,15 +11,13 @@ use mir.Syntax.{w32}
 use mir.Val.{Fits, SFits, toZ, ofZ}
 use mir.ValLaws.{toZ-ofZ, toZ-pos}
 use borrow.Author.Tests.{lt-ltb, le-ltb, le-leb, lt-leb, ltb-true, ltb-false, leb-true, leb-false}
+use Rattle.rules.specs.Limits.{halfClock}
 use Rattle.rules.specs.Values as rules
 use Rattle.rules.specs.Values.{wholeFrom, wholeNumber, within, integer, notWhole}
 use Rattle.rules.specs.Items.{targetIn}
 use Rattle.item.specs.declared.values.Whole.{Whole}
 use Rattle.item.specs.declared.values.Whole.the-variants.{Integer, NotWhole}
 use Rattle.item.specs.Wholes.{whole32, number31}
-
-abbrev half : ℕ
-half = 2147483648
 
 -- an i32, as it is read back from its bits
 abbrev pub back : ℤ → ℤ
@@ -50,7 +48,7 @@ within-limit k x v t f e h =
 same-integer : (w : rules.Whole) (n : ℤ) → Integer n ≡ whole32 w → w ≡ integer n
 unfolding whole32
 same-integer rules.notWhole n e = cc
-same-integer (rules.integer v) n e = go (ltb (mag v) half) e
+same-integer (rules.integer v) n e = go (ltb (mag v) halfClock) e
   where
     go : (t : Bool) → Integer n ≡ cond t (Integer v) NotWhole → integer v ≡ integer n
     go true e = cc
@@ -64,7 +62,7 @@ module _ (w : rules.Whole) (n : ℤ) (r : Whole) (is : r ≡ Integer n) (reads :
   unfolding wholeFrom
   within-is low high l h = rw (whole-is, back-is n f, back-is low l, back-is high h)
 
-  pub target-is : (count own : ℕ) → count < half → ((leZ (pos 0) (back n) && ltZ (back n) (toZ w32 count)) && not (eqb (ofZ w32 n) own)) ≡ targetIn count own w
+  pub target-is : (count own : ℕ) → count < halfClock → ((leZ (pos 0) (back n) && ltZ (back n) (toZ w32 count)) && not (eqb (ofZ w32 n) own)) ≡ targetIn count own w
   unfolding targetIn
   target-is count own c = rw (whole-is, back-is n f, toZ-pos w32 count c) (go n)
     where
@@ -72,9 +70,9 @@ module _ (w : rules.Whole) (n : ℤ) (r : Whole) (is : r ≡ Integer n) (reads :
       go (pos t) = rw (leb·zero t)
       go (negsuc t) = refl
 
-  number : (n : ℤ) → mag n < half → cond (ltZ n (pos 0)) 0 (natAbs n) ≡ number31 (wholeNumber (integer n))
+  number : (n : ℤ) → mag n < halfClock → cond (ltZ n (pos 0)) 0 (natAbs n) ≡ number31 (wholeNumber (integer n))
   unfolding number31 wholeNumber
-  number (pos k) h = rw (le-ltb k 0 zero-le, lt-ltb k half h)
+  number (pos k) h = rw (le-ltb k 0 zero-le, lt-ltb k halfClock h)
   number (negsuc k) h = refl
 
   pub number-is : (t : Bool) → ltZ (back n) (pos 0) ≡ t → cond t 0 (natAbs (back n)) ≡ number31 (wholeNumber w)
@@ -87,21 +85,21 @@ module _ (w : rules.Whole) (n : ℤ) (r : Whole) (is : r ≡ Integer n) (reads :
 pub cast-defined : (n : ℤ) → SFits w32 n → ltZ (back n) (pos 0) ≡ false → T (nonNeg (back n)) × Fits w32 (natAbs (back n))
 cast-defined n f h = subst (λ (z : ℤ). T (nonNeg z) × Fits w32 (natAbs z)) (sym (back-is n f)) (go n (f .sfits) (ap (λ (z : ℤ). ltZ z (pos 0)) (sym (back-is n f)) ∙ h))
   where
-    go : (n : ℤ) → mag n < half → ltZ n (pos 0) ≡ false → T (nonNeg n) × Fits w32 (natAbs n)
+    go : (n : ℤ) → mag n < halfClock → ltZ n (pos 0) ≡ false → T (nonNeg n) × Fits w32 (natAbs n)
     go (pos k) s h = (tt, record { fits = omega arith })
     go (negsuc k) s h = absurd (false≢true (sym h))
 
 -- ---- there is no reading
 
-out-of-reach : (v : ℤ) → NotWhole ≡ whole32 (integer v) → half ≤ mag v
+out-of-reach : (v : ℤ) → NotWhole ≡ whole32 (integer v) → halfClock ≤ mag v
 unfolding whole32
-out-of-reach v e = go (ltb (mag v) half) refl e
+out-of-reach v e = go (ltb (mag v) halfClock) refl e
   where
-    go : (t : Bool) → ltb (mag v) half ≡ t → NotWhole ≡ cond t (Integer v) NotWhole → half ≤ mag v
+    go : (t : Bool) → ltb (mag v) halfClock ≡ t → NotWhole ≡ cond t (Integer v) NotWhole → halfClock ≤ mag v
     go true h e = let z : _≡_ {A = ℕ} 0 1 = cc in omega arith
-    go false h e = ltb-false (mag v) half h
+    go false h e = ltb-false (mag v) halfClock h
 
-beyond : (v low high : ℤ) → half ≤ mag v → mag low < half → mag high < half → false ≡ (leZ low v && leZ v high)
+beyond : (v low high : ℤ) → halfClock ≤ mag v → mag low < halfClock → mag high < halfClock → false ≡ (leZ low v && leZ v high)
 beyond (pos n) low (pos b) far l h = sym (ap (λ (t : Bool). leZ low (pos n) && t) (lt-leb n b (omega arith)) ∙ and-false (leZ low (pos n)))
 beyond (pos n) low (negsuc b) far l h = sym (and-false (leZ low (pos n)))
 beyond (negsuc n) (pos a) high far l h = refl
@@ -113,7 +111,7 @@ module _ (r : Whole) (none : r ≡ NotWhole) where
   not-within rules.notWhole low high e l h = refl
   not-within (rules.integer v) low high e l h = beyond v low high (out-of-reach v (sym none ∙ e)) (l .sfits) (h .sfits)
 
-  pub not-target : (w : rules.Whole) (count own : ℕ) → r ≡ whole32 w → count < half → false ≡ targetIn count own w
+  pub not-target : (w : rules.Whole) (count own : ℕ) → r ≡ whole32 w → count < halfClock → false ≡ targetIn count own w
   unfolding targetIn
   not-target rules.notWhole count own e c = refl
   not-target (rules.integer (pos t)) count own e c = rw (le-ltb t count (omega (arith, out-of-reach (pos t) (sym none ∙ e))))
@@ -122,5 +120,5 @@ module _ (r : Whole) (none : r ≡ NotWhole) where
   pub no-number : (w : rules.Whole) → r ≡ whole32 w → 0 ≡ number31 (wholeNumber w)
   unfolding number31 wholeNumber
   no-number rules.notWhole e = refl
-  no-number (rules.integer (pos n)) e = rw (le-ltb n half (out-of-reach (pos n) (sym none ∙ e)))
+  no-number (rules.integer (pos n)) e = rw (le-ltb n halfClock (out-of-reach (pos n) (sym none ∙ e)))
   no-number (rules.integer (negsuc n)) e = refl

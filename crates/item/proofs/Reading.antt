@@ -13,21 +13,19 @@ use lib.Ieee.Fits.{down-pos}
 use lib.Ieee.Exact.{HasValue}
 use lib.Ieee.Back.{round-whole}
 use borrow.Author.Tests.{lt-ltb, le-ltb, le-leb, lt-leb, eq-eqb, ne-eqb, ltb-true, ltb-false, leb-true, leb-false, eqb-true, eqb-false}
+use Rattle.rules.specs.Limits.{halfClock}
 use Rattle.rules.specs.Values.{wholeOf, integer, notWhole}
 use Rattle.item.specs.declared.values.Whole.{Whole}
 use Rattle.item.specs.declared.values.Whole.the-variants.{Integer, NotWhole}
 use Rattle.item.specs.Wholes.{whole32}
 use Rattle.item.proofs.NumberTests.{eqb-sym, le-or-eq, eqb-scaled}
 
--- -2 ^ 31 and 2 ^ 31, and 2 ^ 31 as a number
+-- -2 ^ 31 and 2 ^ 31
 abbrev pub lowest : Float
 lowest = fin true 1 (pos 31)
 
 abbrev pub bound : Float
 bound = fin false 1 (pos 31)
-
-abbrev half : ℕ
-half = 2147483648
 
 -- the integer of a sign and a magnitude
 abbrev signing : Bool → ℕ → ℤ
@@ -36,37 +34,37 @@ signing s q = cond s (negℤ (pos q)) (pos q)
 -- ---- within the range
 
 record Within (s : Bool) (q : ℕ) : Type 0 where
-  most : q ≤ half
-  fits : mag (signing s q) < half
+  most : q ≤ halfClock
+  fits : mag (signing s q) < halfClock
 
-negative : (q : ℕ) → q ≤ half → mag (negℤ (pos q)) < half
+negative : (q : ℕ) → q ≤ halfClock → mag (negℤ (pos q)) < halfClock
 negative zero h = omega arith
 negative (suc q) h = omega arith
 
 -- `le lowest x` at a negative number
-at-most : (p d : ℕ) → (ltb (p * 1) (half * d) || (eqb (half * d) (p * 1) && true)) ≡ leb p (half * d)
+at-most : (p d : ℕ) → (ltb (p * 1) (halfClock * d) || (eqb (halfClock * d) (p * 1) && true)) ≡ leb p (halfClock * d)
 at-most p d =
-    ap (λ (t : Bool). ltb (p * 1) (half * d) || (t && true)) (eqb-sym (half * d) (p * 1))
-    ∙ le-or-eq (p * 1) (half * d)
-    ∙ ap (λ (k : ℕ). leb k (half * d)) (mul-one p)
+    ap (λ (t : Bool). ltb (p * 1) (halfClock * d) || (t && true)) (eqb-sym (halfClock * d) (p * 1))
+    ∙ le-or-eq (p * 1) (halfClock * d)
+    ∙ ap (λ (k : ℕ). leb k (halfClock * d)) (mul-one p)
 
 within : (s : Bool) (m : ℕ) (e : ℤ) → le lowest (fin s m e) ≡ true → lt (fin s m e) bound ≡ true → Within s (m * up e / down e)
 unfolding lt le eq
 within false m e l h =
     let q = m * up e / down e in
-    let small : q < half = div-lt-iff-lt-mul (down-pos e) .1 (omega (arith, ltb-true (m * up e * 1) (half * down e) h)) in
+    let small : q < halfClock = div-lt-iff-lt-mul (down-pos e) .1 (omega (arith, ltb-true (m * up e * 1) (halfClock * down e) h)) in
     record { most = omega arith; fits = small }
 within true m e l h =
     let q = m * up e / down e in
-    let few : m * up e ≤ half * down e = leb-true (m * up e) (half * down e) (sym (at-most (m * up e) (down e)) ∙ l) in
-    let small : q < 1 + half = div-lt-iff-lt-mul (down-pos e) .1 (omega (arith, few, down-pos e)) in
+    let few : m * up e ≤ halfClock * down e = leb-true (m * up e) (halfClock * down e) (sym (at-most (m * up e) (down e)) ∙ l) in
+    let small : q < 1 + halfClock = div-lt-iff-lt-mul (down-pos e) .1 (omega (arith, few, down-pos e)) in
     record { most = omega arith; fits = negative q (omega arith) }
 
-capped : (q c : ℕ) → q ≤ half → half ≤ c → min q c ≡ q
+capped : (q c : ℕ) → q ≤ halfClock → halfClock ≤ c → min q c ≡ q
 capped q c h k = min-eq-left (le-trans h k)
 
 -- cut toward zero
-cut-is : (s : Bool) (m : ℕ) (e : ℤ) → m * up e / down e ≤ half → toSigned 63 (fin s m e) ≡ signing s (m * up e / down e)
+cut-is : (s : Bool) (m : ℕ) (e : ℤ) → m * up e / down e ≤ halfClock → toSigned 63 (fin s m e) ≡ signing s (m * up e / down e)
 unfolding toSigned
 cut-is true m e h = ap (λ (q : ℕ). negℤ (pos q)) (capped (m * up e / down e) (2 ^ 63) h (omega arith))
 cut-is false m e h = ap pos (capped (m * up e / down e) (2 ^ 63 - 1) h (omega arith))
@@ -77,7 +75,7 @@ cut-is false m e h = ap pos (capped (m * up e / down e) (2 ^ 63 - 1) h (omega ar
 abbrev sign : Bool → ℕ → Bool
 sign s q = s && ltb 0 q
 
-as-float : (s : Bool) (q : ℕ) → q ≤ half → HasValue (ofInt binary64 (signing s q)) (sign s q) q 1
+as-float : (s : Bool) (q : ℕ) → q ≤ halfClock → HasValue (ofInt binary64 (signing s q)) (sign s q) q 1
 unfolding ofInt
 as-float false q h = round-whole binary64 false q (omega arith)
 as-float true zero h = round-whole binary64 false 0 (omega arith)
@@ -115,25 +113,25 @@ exact p d = go (eqb (p % d) 0) refl (div-add-mod' p d)
 -- ---- the reading
 
 -- what `whole32` makes of a number in the range
-in-range : (t : Bool) (z : ℤ) → mag z < half → cond t (Integer z) NotWhole ≡ whole32 (cond t (integer z) notWhole)
+in-range : (t : Bool) (z : ℤ) → mag z < halfClock → cond t (Integer z) NotWhole ≡ whole32 (cond t (integer z) notWhole)
 unfolding whole32
-in-range true z h = rw (lt-ltb (mag z) half h)
+in-range true z h = rw (lt-ltb (mag z) halfClock h)
 in-range false z h = refl
 
 -- and of one that is beyond it where it is whole
-out-of-range : (t : Bool) (z : ℤ) → (t ≡ true → half ≤ mag z) → NotWhole ≡ whole32 (cond t (integer z) notWhole)
+out-of-range : (t : Bool) (z : ℤ) → (t ≡ true → halfClock ≤ mag z) → NotWhole ≡ whole32 (cond t (integer z) notWhole)
 unfolding whole32
-out-of-range true z h = rw (le-ltb (mag z) half (h refl))
+out-of-range true z h = rw (le-ltb (mag z) halfClock (h refl))
 out-of-range false z h = refl
 
-pub cut-fits : (x : Float) → le lowest x ≡ true → lt x bound ≡ true → mag (toSigned 63 x) < half
+pub cut-fits : (x : Float) → le lowest x ≡ true → lt x bound ≡ true → mag (toSigned 63 x) < halfClock
 unfolding lt le eq
 cut-fits nan l h = absurd (false≢true l)
 cut-fits (inf true) l h = absurd (false≢true l)
 cut-fits (inf false) l h = absurd (false≢true h)
 cut-fits (fin s m e) l h =
     let w = within s m e l h in
-    subst (λ (z : ℤ). mag z < half) (sym (cut-is s m e (w .most))) (w .fits)
+    subst (λ (z : ℤ). mag z < halfClock) (sym (cut-is s m e (w .most))) (w .fits)
 
 -- what `truncating_f32_to_i64` asks
 pub cut-defined : (x : Float) → le lowest x ≡ true → lt x bound ≡ true → T (le (fin true 1 (pos 63)) x) × T (lt x (fin false 1 (pos 63)))
@@ -142,12 +140,12 @@ cut-defined nan l h = absurd (false≢true l)
 cut-defined (inf true) l h = absurd (false≢true l)
 cut-defined (inf false) l h = absurd (false≢true h)
 cut-defined (fin false m e) l h =
-    let few : m * up e * 1 < half * down e = ltb-true (m * up e * 1) (half * down e) h in (
+    let few : m * up e * 1 < halfClock * down e = ltb-true (m * up e * 1) (halfClock * down e) h in (
       rw (lt-ltb 0 (2 ^ 63 * down e + m * up e * 1) (omega (arith, down-pos e))) tt,
       rw (lt-ltb (m * up e * 1) (2 ^ 63 * down e) (omega (arith, few))) tt,
     )
 cut-defined (fin true m e) l h =
-    let few : m * up e ≤ half * down e = leb-true (m * up e) (half * down e) (sym (at-most (m * up e) (down e)) ∙ l) in (
+    let few : m * up e ≤ halfClock * down e = leb-true (m * up e) (halfClock * down e) (sym (at-most (m * up e) (down e)) ∙ l) in (
       rw (lt-ltb (m * up e * 1) (2 ^ 63 * down e) (omega (arith, few, down-pos e))) tt,
       rw (lt-ltb 0 (m * up e * 1 + 2 ^ 63 * down e) (omega (arith, down-pos e))) tt,
     )
@@ -172,10 +170,10 @@ too-large nan h = refl
 too-large (inf s) h = refl
 too-large (fin false m e) h =
     out-of-range (eqb (m * up e % down e) 0) (pos (m * up e / down e))
-    (λ w. le-div-iff-mul-le (down-pos e) .1 (omega (arith, ltb-false (m * up e * 1) (half * down e) h)))
-too-large (fin true m e) h = absurd (omega (arith, ltb-false 0 (m * up e * 1 + half * down e) h, down-pos e))
+    (λ w. le-div-iff-mul-le (down-pos e) .1 (omega (arith, ltb-false (m * up e * 1) (halfClock * down e) h)))
+too-large (fin true m e) h = absurd (omega (arith, ltb-false 0 (m * up e * 1 + halfClock * down e) h, down-pos e))
 
-beyond : (q : ℕ) → half < q → half ≤ mag (negℤ (pos q))
+beyond : (q : ℕ) → halfClock < q → halfClock ≤ mag (negℤ (pos q))
 beyond zero h = absurd (omega arith)
 beyond (suc q) h = omega arith
 
@@ -184,12 +182,12 @@ unfolding lt le eq wholeOf whole32
 too-small nan h = refl
 too-small (inf s) h = refl
 too-small (fin false m e) h =
-    let more : 0 < half * down e + m * up e * 1 = omega (arith, down-pos e) in
-    let holds : le lowest (fin false m e) ≡ true = rw (lt-ltb 0 (half * down e + m * up e * 1) more) in
+    let more : 0 < halfClock * down e + m * up e * 1 = omega (arith, down-pos e) in
+    let holds : le lowest (fin false m e) ≡ true = rw (lt-ltb 0 (halfClock * down e + m * up e * 1) more) in
     absurd (false≢true (sym h ∙ holds))
 too-small (fin true m e) h =
     let p = m * up e in
     let q = m * up e / down e in
-    let more : half * down e < p = leb-false p (half * down e) (sym (at-most p (down e)) ∙ h) in
+    let more : halfClock * down e < p = leb-false p (halfClock * down e) (sym (at-most p (down e)) ∙ h) in
     out-of-range (eqb (p % down e) 0) (negℤ (pos q))
     (λ w. beyond q (lt-of-mul-lt-mul-right (down e) (omega (arith, more, div-add-mod' p (down e), eqb-true (p % down e) 0 w))))

@@ -10,6 +10,7 @@ use Rattle.item.specs.declared.table.Row.{Row}
 use Rattle.item.specs.declared.table.Listing.{Listing}
 use Rattle.item.specs.declared.table.Listing.the-variants.{Listed, NotListed}
 
+-- what each case of the code's ParamRule asks
 abbrev pub ruleOf : ParamRule → rules.ParamRule
 ruleOf Anything = rules.anything
 ruleOf Finite = rules.isFinite
@@ -34,6 +35,7 @@ unfoldable pub lookup : ℕ → List rules.Row → Found
 lookup command [] = noRow
 lookup command (r ∷ rs) = cond (eqb (r .command) command) (row r) (lookup command rs)
 
+-- what the code's answer for a command says
 abbrev pub lookedUp : ℕ → Listing → Found
 lookedUp command (Listed r) = row (rowOf command r)
 lookedUp command NotListed = noRow

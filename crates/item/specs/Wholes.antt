@@ -9,11 +9,11 @@ use Rattle.rules.specs.Values as rules
 use Rattle.item.specs.declared.values.Whole.{Whole}
 use Rattle.item.specs.declared.values.Whole.the-variants.{Integer, NotWhole}
 
--- an exact reading, where it is one of 32 signed bits
+-- an exact reading, where it is one of 32 signed bits: `mag v` is n both for n and for -(n + 1)
 unfoldable pub whole32 : rules.Whole → Whole
 whole32 (rules.integer v) = cond (ltb (mag v) halfClock) (Integer v) NotWhole
 whole32 rules.notWhole = NotWhole
 
--- a number, where it is one of 31 bits
+-- a number, where it is one of 31 bits; otherwise 0
 unfoldable pub number31 : ℕ → ℕ
 number31 n = cond (ltb n halfClock) n 0

@@ -22,6 +22,7 @@ pub enum ParamRule {
     Target,
 }
 
+// A row of the table, for the commands of one arm.
 pub struct Row {
     pub kind: u8,
     pub positional: bool,
@@ -29,6 +30,7 @@ pub struct Row {
     pub param2: ParamRule,
 }
 
+// What the table has for a command.
 pub enum Listing {
     Listed(Row),
     NotListed,
@@ -45,6 +47,7 @@ fn listed_as(kind: u8, positional: bool, param1: ParamRule, param2: ParamRule) -
     })
 }
 
+// "16 to 183 belong to flight, 5000 to 5004 to fence, 5100 to rally; anything else is 3"
 pub fn row_of(command: u16) -> Listing
     ensures { λ r. ⌜ lookedUp command r ≡ lookup command commands ⌝ }
 {

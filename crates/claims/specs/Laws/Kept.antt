@@ -15,6 +15,7 @@ use Rattle.rules.specs.Model.{Plan, Run, Upload, idle, running, Model, planOf, 
 use Rattle.rules.specs.Calls.{Call, message, timer, done, Request, chooses, asksList, announces, clears, acknowledges, asksItem, brings, Heard, refuses, request, expiry, commandDone, isKnown, oursOrAll, heardMessage, forUs, heard}
 use Rattle.rules.specs.Step.{Stepped, withUpload, idleAt, onCount, replaced, takes, onItem, onAck, onClear, anyOthers, covered, onList, onRequest, onSetCurrent, onKnown, kindOk, onMessage, onTimer, act, step, run}
 use Rattle.rules.specs.Laws.Tests.{both, either}
+use Rattle.rules.specs.Laws.Kinds.{covered-known}
 use Rattle.claims.specs.Laws.Ranged.{Formed, fresh-formed, formed-ranged, upload-formed, plan-formed, empty-formed, choose-formed}
 use Rattle.claims.specs.Laws.Search.{advance-formed}
 
@@ -124,11 +125,6 @@ any-ack-kept m f from kind result = go (isKnown kind) refl
     go : (t : Bool) → isKnown kind ≡ t → Kept (onAck m from kind result)
     go true e = ack-kept m f from 0 kind e result
     go false e = rw (unknown-idle m kind f e) f
-
--- the kinds that an allowed clear covers are known
-covered-known : (kind : ℕ) → kindOk kind clears ≡ true → every isKnown (covered kind) ≡ true
-unfolding kindOk
-covered-known kind ok = either (λ (ks : List ℕ). every isKnown ks ≡ true) (eqb kind everyKind) (λ t. refl) (λ other. and-true (isKnown kind) ∙ sym (or-false (isKnown kind)) ∙ (rw other at ok))
 
 message-kept : (m : Model) → Formed m → (from : Station) (now kind : ℕ) (r : Request) → Kept (onMessage m from now kind r)
 unfolding onMessage onKnown onSetCurrent onList onRequest onClear kindOk

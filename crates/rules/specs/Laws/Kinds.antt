@@ -1,16 +1,17 @@
 -- Kinds: what holds of flight, fence and rally holds of every known kind; what the range test says of a kind.
 use Prim.Native.Nat.{ℕ, zero, suc, _≤_}
 use native.Mathlib.Omega.{arith}
-use mathlib.Core.Path.{_≡_}
-use mathlib.Core.Bool.{Bool, true, false, _&&_, _||_}
+use mathlib.Core.Path.{_≡_, refl, sym, _∙_}
+use mathlib.Core.Bool.{Bool, true, false, _&&_, _||_, and-true, or-false}
 use mathlib.Core.List.{List, [], _∷_}
 use lib.ListN.{length}
 use lib.Dec.{eqb, leb, ltb}
 use borrow.Author.Tests.{leb-true}
-use Rattle.rules.specs.Limits.{flight, fence, rally, kinds, sizeOf, maxRuns}
+use Rattle.rules.specs.Limits.{flight, fence, rally, kinds, everyKind, sizeOf, maxRuns}
 use Rattle.rules.specs.Model.{Model, uploadOf, lengthOf, every, uploadInRange, inRange}
-use Rattle.rules.specs.Calls.{isKnown}
-use Rattle.rules.specs.Laws.Tests.{both}
+use Rattle.rules.specs.Calls.{isKnown, clears}
+use Rattle.rules.specs.Step.{covered, kindOk}
+use Rattle.rules.specs.Laws.Tests.{both, either}
 
 pub each-kind : (P : ℕ → Type 0) → P flight → P fence → P rally → (kind : ℕ) → isKnown kind ≡ true → P kind
 each-kind P a b c zero known = a
@@ -43,3 +44,8 @@ ranged-kind m e =
     let place = ltb (m .shown .current) (lengthOf (m .shown) flight) || eqb (m .shown .current) 0 in
     let runs = every (λ (n : ℕ). leb n maxRuns) (m .shown .counts) in
     ranged-three m (both plans place (both (plans && place) runs e .0) .0)
+
+-- the kinds that an allowed clear covers are known
+pub covered-known : (kind : ℕ) → kindOk kind clears ≡ true → every isKnown (covered kind) ≡ true
+unfolding kindOk
+covered-known kind ok = either (λ (ks : List ℕ). every isKnown ks ≡ true) (eqb kind everyKind) (λ t. refl) (λ other. and-true (isKnown kind) ∙ sym (or-false (isKnown kind)) ∙ (rw other at ok))

@@ -2,6 +2,7 @@
 use Prim.Native.Nat.{ℕ}
 use mathlib.Core.Path.{_≡_, sym, ap, _∙_}
 use mathlib.Core.Bool.{Bool, true, false, not}
+use Rattle.rules.specs.Limits.{unsupportedFrame, invalidParam1, invalidParam2}
 use Rattle.rules.specs.Values.{float}
 use Rattle.rules.specs.Items.{frameOk, paramOk, placeFault, roomFault, faultIn}
 use Rattle.item.specs.declared.Item.{Item}
@@ -25,7 +26,7 @@ module _
     abbrev Gives : ℕ → Type 0
     Gives f = f ≡ faultIn (rowOf (item .command) row) count own jumps (patterns item)
 
-    frame-fault : not frame ≡ true → Gives 2
+    frame-fault : not frame ≡ true → Gives unsupportedFrame
     unfolding faultIn
     frame-fault f = rw (← frame-is, f)
 
@@ -33,7 +34,7 @@ module _
       first : one ≡ paramOk (ruleOf (row .param1)) count own (float (item .bits1))
       first = one-is ∙ ap (λ (i : Item). paramOk (ruleOf (row .param1)) count own (i .param1)) sound
 
-      param1-fault : not one ≡ true → Gives 6
+      param1-fault : not one ≡ true → Gives invalidParam1
       unfolding faultIn
       param1-fault p = rw (← frame-is, f, ← first, p)
 
@@ -41,7 +42,7 @@ module _
         second : two ≡ paramOk (ruleOf (row .param2)) count own (float (item .bits2))
         second = two-is ∙ ap (λ (i : Item). paramOk (ruleOf (row .param2)) count own (i .param2)) sound
 
-        param2-fault : not two ≡ true → Gives 7
+        param2-fault : not two ≡ true → Gives invalidParam2
         unfolding faultIn
         param2-fault q = rw (← frame-is, f, ← first, p, ← second, q)
 

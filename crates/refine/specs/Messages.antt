@@ -1,0 +1,149 @@
+-- Every message commutes with the view.
+use Prim.Native.Nat.{ℕ, zero, suc, _+_, _≤_, _<_}
+use native.Mathlib.Omega.{arith}
+use mathlib.Core.Path.{_≡_, refl, sym, ap, subst, _∙_}
+use mathlib.Core.List.{List, [], _∷_, _++_}
+use mathlib.Core.Bool.{Bool, true, false, not, cond, _&&_, _||_, and-true, or-false}
+use lib.ListN.{length, getD, set, length-set, List·getD-eq-default}
+use lib.Dec.{eqb, leb, ltb}
+use borrow.Author.Tests.{ltb-true, leb-false}
+use Rattle.rules.specs.Limits.{flight, fence, rally, everyKind, kinds, sizeOf, storeBytes, accepted, unsupported, invalidSequence, denied}
+use Rattle.rules.specs.Payload.{Bytes}
+use Rattle.rules.specs.Messages.{Station, Item, ack, count, itemInt, itemIn}
+use Rattle.rules.specs.Model as model
+use Rattle.rules.specs.Model.{Model, idle, every, isOthers, isOwn, shownNumber, choose, withPlan, inRange}
+use Rattle.rules.specs.Calls.{Request, chooses, asksList, announces, clears, acknowledges, asksItem, brings, isKnown}
+use Rattle.rules.specs.Step.{Stepped, Answer, says, silent, acks, idleAt, covered, anyOthers, currentOf, refusalText, onClear, onList, onRequest, onSetCurrent, onKnown, kindOk, onMessage, onAck}
+use Rattle.rules.specs.Laws.Tests.{both, either₂}
+use Rattle.rules.specs.Laws.Kinds.{covered-known}
+use Rattle.plan.specs.declared.State.{State}
+use Rattle.plan.specs.declared.Plan.{Plan}
+use Rattle.plan.specs.declared.Upload.{Upload}
+use Rattle.plan.specs.declared.Upload.the-variants.{Idle, Running}
+use Rattle.plan.specs.Places.{itemsIn, itemAt, length-items, items-at}
+use Rattle.plan.specs.View.{emptyPlan, planOf, planIn, uploadIn, view}
+use Rattle.engine.specs.declared.Say.the-variants.{Silent, Ack, Ask}
+use Rattle.engine.specs.Turns.{emptied, renews, othersUpload, ackTurned, ownUpload, keeps, ended}
+use Rattle.engine.specs.Whole.{Done, gives, turnedState, turns, clearedState, othersAmong, clearDone, numberShown, listDone, requestDone, chosenState, chooseDone, knownDone, messageDone}
+use Rattle.refine.specs.Views.{plan-shown, upload-shown, length-shown, same-state, view-renewed}
+use Rattle.refine.specs.Turned.{Agree, others-shown, own-shown, empties, count-agrees, ack-agrees}
+use Rattle.refine.specs.Items.{item-agrees}
+
+-- ---- clears
+
+others-agree : (st : State) (s : Bytes) (from : Station) (ks : List ℕ) → every isKnown ks ≡ true → anyOthers (view st s) from ks ≡ othersAmong st from ks
+others-agree st s from [] known = refl
+others-agree st s from (k ∷ ks) known =
+    let parts = both (isKnown k) (every isKnown ks) known in
+    let p = planOf st k in
+    ap (λ (u : model.Upload). isOthers from u || anyOthers (view st s) from ks) (upload-shown st s k (parts .0))
+    ∙ ap (λ (b : Bool). b || anyOthers (view st s) from ks) (others-shown from s (not (p .half)) k (p .upload))
+    ∙ ap (λ (b : Bool). othersUpload from (p .upload) || b) (others-agree st s from ks (parts .1))
+
+cleared-view :
+    (st : State) (s : Bytes) → length (st .plans) ≡ length kinds → (ks : List ℕ) → every isKnown ks ≡ true
+    → view (clearedState st ks) s ≡ record { shown = model.empty ks (view st s .shown); uploads = idleAt ks (view st s .uploads) }
+unfolding model.empty turnedState
+cleared-view st s three [] known = refl
+cleared-view st s three (k ∷ ks) known =
+    let parts = both (isKnown k) (every isKnown ks) known in
+    let p = emptied (planOf st k) in
+    let st′ = turnedState st k (renews p Silent) in
+    cleared-view st′ s (length-set (st .plans) k p ∙ three) ks (parts .1)
+    ∙ ap (λ (m : Model). record { shown = model.empty ks (m .shown); uploads = idleAt ks (m .uploads) })
+    (empties st s three k (parts .0) (record { system = 0; component = 0 }) Silent silent refl .model)
+
+module _ (st : State) (s : Bytes) (three : length (st .plans) ≡ length kinds) where
+  clear-agrees : (from : Station) (k : ℕ) → kindOk k clears ≡ true → Agree (clearDone st s from k) (onClear (view st s) from k)
+  unfolding clearDone onClear
+  clear-agrees from k ok =
+      rw (others-agree st s from (covered k) (covered-known k ok))
+      (either₂ Agree (othersAmong st from (covered k)) (λ t. record { model = refl; answer = refl })
+      (λ t. record { model = cleared-view st s three (covered k) (covered-known k ok); answer = refl }))
+
+  -- ---- reading and choosing
+
+  number-shown : (k : ℕ) → isKnown k ≡ true → shownNumber (model.planOf (view st s .shown) k) ≡ numberShown (planOf st k)
+  unfolding shownNumber numberShown
+  number-shown k known =
+      let p = planOf st k in
+      ap shownNumber (plan-shown st s k known) ∙ ap (λ (n : ℕ). cond (eqb n 0) 0 (p .number)) (length-items s (p .half) k (p .len))
+
+  list-agrees : (from : Station) (k : ℕ) → isKnown k ≡ true → Agree (listDone st s from k) (onList (view st s) from k)
+  unfolding listDone onList
+  list-agrees from k known =
+      record {
+        model = refl;
+        answer =
+            ap (λ (n : ℕ). says (count from n k (numberShown (planOf st k)))) (sym (length-shown st s k known))
+            ∙ ap (λ (n : ℕ). says (count from (model.lengthOf (view st s .shown) k) k n)) (sym (number-shown k known));
+      }
+
+  item-shown : (k seq : ℕ) → isKnown k ≡ true → seq < planOf st k .len → getD (model.planOf (view st s .shown) k .items) seq [] ≡ itemAt s (planOf st k .half) k seq
+  item-shown k seq known below =
+      ap (λ (p : model.Plan). getD (p .items) seq []) (plan-shown st s k known) ∙ items-at s (planOf st k .half) k (planOf st k .len) seq below
+
+  request-agrees : (from : Station) (k seq : ℕ) → isKnown k ≡ true → Agree (requestDone st s from k seq) (onRequest (view st s) from k seq)
+  unfolding requestDone onRequest view
+  request-agrees from k seq known =
+      rw (length-shown st s k known)
+      (either₂ Agree (ltb seq (planOf st k .len))
+      (λ below. record {
+        model = refl;
+        answer =
+            ap (λ (b : Bytes). says (itemInt from (cond (eqb k flight && eqb seq (st .current)) 1 0) (itemIn b))) (sym (item-shown k seq known (ltb-true seq (planOf st k .len) below)));
+      })
+      (λ t. record { model = refl; answer = refl }))
+
+  chosen-view : (seq : ℕ) → view (chosenState st seq) s ≡ record { shown = choose seq (view st s .shown); uploads = view st s .uploads }
+  unfolding view choose
+  chosen-view seq = refl
+
+  choose-agrees : (seq : ℕ) → Agree (chooseDone st s seq) (onSetCurrent (view st s) seq)
+  unfolding chooseDone onSetCurrent choose
+  choose-agrees seq =
+      rw (length-shown st s flight refl, number-shown flight refl, number-shown fence refl, number-shown rally refl)
+      (either₂ Agree (ltb seq (planOf st flight .len)) (λ t. record { model = chosen-view seq; answer = refl }) (λ t. record { model = refl; answer = refl }))
+
+  -- ---- an ACK of any kind
+
+  -- an unknown kind has no plan and no upload
+  no-plan : (k : ℕ) → isKnown k ≡ false → planOf st k ≡ emptyPlan
+  no-plan k e = List·getD-eq-default (st .plans) emptyPlan (let more : rally < k = leb-false k rally e in omega (arith, three))
+
+  no-upload : (k : ℕ) → isKnown k ≡ false → model.uploadOf (view st s) k ≡ idle
+  unfolding view
+  no-upload k e = let past : length (view st s .uploads) ≤ k = leb-false k rally e in List·getD-eq-default (view st s .uploads) idle past
+
+  unknown-ack : (from : Station) (k result : ℕ) → isKnown k ≡ false → Agree (turns st s k from (ackTurned (planOf st k) from result)) (onAck (view st s) from k result)
+  unfolding ackTurned onAck ownUpload isOwn
+  unknown-ack from k result e =
+      let still : turnedState st k (keeps (planOf st k) Silent) ≡ st = same-state st k Silent in
+      rw (no-upload k e)
+      (subst (λ (u : Upload). Agree (turns st s k from (cond (ownUpload from u && not (eqb result accepted)) (keeps (ended (planOf st k)) Silent) (keeps (planOf st k) Silent))) (record { model = view st s; answer = silent }))
+      (sym (ap (λ (p : Plan). p .upload) (no-plan k e)))
+      (record { model = ap (λ (x : State). view x s) still; answer = refl }))
+
+  any-ack-agrees : (from : Station) (k result : ℕ) → Agree (turns st s k from (ackTurned (planOf st k) from result)) (onAck (view st s) from k result)
+  any-ack-agrees from k result = go (isKnown k) refl
+    where
+      go : (t : Bool) → isKnown k ≡ t → Agree (turns st s k from (ackTurned (planOf st k) from result)) (onAck (view st s) from k result)
+      go true e = ack-agrees st s three k e from result
+      go false e = unknown-ack from k result e
+
+  -- ---- every message
+
+  module _ (long : storeBytes ≤ length s) (ranged : inRange (view st s) ≡ true) (from : Station) (now k : ℕ) where
+    known-agrees : (r : Request) → kindOk k r ≡ true → Agree (knownDone st s from now k r) (onKnown (view st s) from now k r)
+    unfolding knownDone onKnown kindOk
+    known-agrees (chooses seq) ok = choose-agrees seq
+    known-agrees asksList ok = list-agrees from k ok
+    known-agrees (announces n) ok = count-agrees st s three k ok from now n
+    known-agrees clears ok = clear-agrees from k ok
+    known-agrees (acknowledges result) ok = any-ack-agrees from k result
+    known-agrees (asksItem seq) ok = request-agrees from k seq ok
+    known-agrees (brings item) ok = item-agrees st s three long ranged k ok from now item
+
+    pub message-agrees : (r : Request) → Agree (messageDone st s from now k r) (onMessage (view st s) from now k r)
+    unfolding messageDone onMessage
+    message-agrees r = either₂ Agree (kindOk k r) (known-agrees r) (λ t. record { model = refl; answer = refl })

@@ -1,0 +1,105 @@
+-- What the view shows of one kind, and how it changes with one plan.
+use Prim.Native.Nat.{ℕ, zero, suc, _+_, _≤_, _<_}
+use native.Mathlib.Omega.{arith}
+use mathlib.Core.Path.{_≡_, refl, sym, ap, subst, _∙_}
+use mathlib.Core.List.{List, [], _∷_, _++_, map}
+use mathlib.Core.Bool.{Bool, true, false, not, cond, _&&_}
+use lib.ListN.{length, getD, set}
+use lib.Seq.{set-getD}
+use lib.Dec.{eqb}
+use borrow.Author.Tests.{leb-true}
+use Rattle.rules.specs.Limits.{flight, fence, rally, kinds}
+use Rattle.rules.specs.Payload.{Bytes}
+use Rattle.rules.specs.Messages.{Station}
+use Rattle.rules.specs.Model as model
+use Rattle.rules.specs.Model.{Model, withPlan}
+use Rattle.rules.specs.Calls.{isKnown}
+use Rattle.rules.specs.Laws.Kinds.{each-kind}
+use Rattle.rules.specs.Laws.Lists.{at-set}
+use Rattle.plan.specs.declared.State.{State}
+use Rattle.plan.specs.declared.Plan.{Plan}
+use Rattle.plan.specs.declared.Run.{Run}
+use Rattle.plan.specs.declared.Upload.{Upload}
+use Rattle.plan.specs.declared.Upload.the-variants.{Idle, Running}
+use Rattle.plan.specs.Places.{itemsIn, length-items}
+use Rattle.plan.specs.View.{emptyPlan, planOf, planIn, runIn, uploadIn, view}
+use Rattle.engine.specs.declared.Say.{Say}
+use Rattle.engine.specs.declared.Turned.{Turned}
+use Rattle.engine.specs.Turns.{withUpload, keeps, renews}
+use Rattle.engine.specs.Whole.{turnedState}
+
+known-below : (k : ℕ) → isKnown k ≡ true → k < length kinds
+known-below k known = let le : k ≤ rally = leb-true k rally known in omega arith
+
+module _ (st : State) (s : Bytes) where
+  -- the plan and the upload of a kind, as shown
+  pub plan-shown : (k : ℕ) → isKnown k ≡ true → model.planOf (view st s .shown) k ≡ planIn s k (planOf st k)
+  unfolding view
+  plan-shown = each-kind (λ (k : ℕ). model.planOf (view st s .shown) k ≡ planIn s k (planOf st k)) refl refl refl
+
+  pub upload-shown : (k : ℕ) → isKnown k ≡ true → model.uploadOf (view st s) k ≡ uploadIn s (not (planOf st k .half)) k (planOf st k .upload)
+  unfolding view
+  upload-shown = each-kind (λ (k : ℕ). model.uploadOf (view st s) k ≡ uploadIn s (not (planOf st k .half)) k (planOf st k .upload)) refl refl refl
+
+  pub length-shown : (k : ℕ) → isKnown k ≡ true → model.lengthOf (view st s .shown) k ≡ planOf st k .len
+  length-shown k known = ap (λ (p : model.Plan). length (p .items)) (plan-shown k known) ∙ length-items s (planOf st k .half) k (planOf st k .len)
+
+-- a turn that changes nothing
+pub same-state : (st : State) (k : ℕ) (say : Say) → turnedState st k (keeps (planOf st k) say) ≡ st
+unfolding turnedState
+same-state st k say = λ i. record { plans = set-getD (st .plans) k emptyPlan i; current = st .current; begun = st .begun; counts = st .counts }
+
+module _ (st : State) (s : Bytes) (three : length (st .plans) ≡ length kinds) where
+  at : (k j : ℕ) (p : Plan) → isKnown k ≡ true → getD (set (st .plans) k p) j emptyPlan ≡ cond (eqb k j) p (planOf st j)
+  at k j p known = at-set (st .plans) k j p emptyPlan (rw three (known-below k known))
+
+  -- a plan's turn, shown: kind by kind
+  abbrev shownWith : (k : ℕ) (p : Plan) → List model.Plan
+  shownWith k p = map (λ (j : ℕ). planIn s j (cond (eqb k j) p (planOf st j))) kinds
+
+  abbrev uploadsWith : (k : ℕ) (p : Plan) → List model.Upload
+  uploadsWith k p = map (λ (j : ℕ). uploadIn s (not (cond (eqb k j) p (planOf st j) .half)) j (cond (eqb k j) p (planOf st j) .upload)) kinds
+
+  view-turned :
+      (k : ℕ) (t : Turned) → isKnown k ≡ true
+      → view (turnedState st k t) s
+      ≡ record {
+        shown =
+            record {
+              plans = shownWith k (t .plan);
+              current = cond (t .renewed && eqb k flight) 0 (st .current);
+              begun = cond (t .renewed && eqb k flight) false (st .begun);
+              counts = cond (t .renewed && eqb k flight) model.noCounts (st .counts);
+            };
+        uploads = uploadsWith k (t .plan);
+      }
+  unfolding view turnedState
+  view-turned k t known = rw (at k flight (t .plan) known, at k fence (t .plan) known, at k rally (t .plan) known)
+
+  -- only the upload of one kind changes
+  pub view-upload :
+      (k : ℕ) (u : Upload) (say : Say) → isKnown k ≡ true
+      → view (turnedState st k (keeps (withUpload (planOf st k) u) say)) s
+      ≡ record { shown = view st s .shown; uploads = set (view st s .uploads) k (uploadIn s (not (planOf st k .half)) k u) }
+  unfolding view
+  view-upload k u say known =
+      view-turned k (keeps (withUpload (planOf st k) u) say) known
+      ∙ each-kind
+      (λ (k : ℕ). _≡_ {A = Model}
+      (record { shown = record { plans = shownWith k (withUpload (planOf st k) u); current = st .current; begun = st .begun; counts = st .counts }; uploads = uploadsWith k (withUpload (planOf st k) u) })
+      (record { shown = view st s .shown; uploads = set (view st s .uploads) k (uploadIn s (not (planOf st k .half)) k u) }))
+      refl refl refl k known
+
+  -- the plan of one kind is replaced or emptied
+  pub view-renewed :
+      (k : ℕ) (p : Plan) (say : Say) → isKnown k ≡ true
+      → view (turnedState st k (renews p say)) s
+      ≡ record { shown = withPlan k (planIn s k p) (view st s .shown); uploads = set (view st s .uploads) k (uploadIn s (not (p .half)) k (p .upload)) }
+  unfolding view withPlan
+  view-renewed k p say known =
+      view-turned k (renews p say) known
+      ∙ each-kind
+      (λ (k : ℕ). _≡_ {A = Model}
+      (record { shown = record { plans = shownWith k p; current = cond (eqb k flight) 0 (st .current); begun = cond (eqb k flight) false (st .begun); counts = cond (eqb k flight) model.noCounts (st .counts) }; uploads = uploadsWith k p })
+      (record { shown = withPlan k (planIn s k p) (view st s .shown); uploads = set (view st s .uploads) k (uploadIn s (not (p .half)) k (p .upload)) }))
+      refl refl refl k known

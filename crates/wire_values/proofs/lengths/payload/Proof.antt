@@ -1,0 +1,52 @@
+-- `wire_values::lengths::payload` meets its contract: `i` stays at most 300, and the array keeps its length.
+use Prim.Native.Nat.{_-_, _≤_}
+use mathlib.Core.Path.{_≡_}
+use lib.ListN.{length}
+use borrow.Author.Needs.{needs}
+use Rattle.wire_values.proofs.lengths.payload.Statement.{statement}
+use Rattle.wire_values.proofs.lengths.payload.Tie as tie
+
+abbrev Inv-loop : tie.InvT-loop
+Inv-loop p₀ i₀ p i = (i ≤ 300) × (length p ≡ 300)
+
+abbrev μ-loop : tie.MeasureT-loop
+μ-loop p₀ i₀ p i = 300 - i
+
+loop-holds : tie.Need-loop-holds Inv-loop μ-loop
+loop-holds c = search needs
+
+add-p : tie.Need-add-p Inv-loop μ-loop
+add-p c = search needs
+
+cast-p : tie.Need-cast-p Inv-loop μ-loop
+cast-p c = search needs
+
+array-write-p : tie.Need-array-write-p Inv-loop μ-loop
+array-write-p c = search needs
+
+add-i : tie.Need-add-i Inv-loop μ-loop
+add-i c = search needs
+
+loop-less : tie.Need-loop-less Inv-loop μ-loop
+loop-less c = search needs
+
+loop-again : tie.Need-loop-again Inv-loop μ-loop
+loop-again c = search needs
+
+returns : tie.Need-returns Inv-loop μ-loop
+returns c = search needs
+
+pub payload-spec : {M : Type 1} → statement M
+payload-spec =
+    tie.close
+    (tie.spec
+    Inv-loop
+    μ-loop
+    loop-holds
+    add-p
+    cast-p
+    array-write-p
+    add-i
+    loop-less
+    loop-again
+    returns)
