@@ -39,9 +39,9 @@ use Rattle.refine.specs.Views.{plan-shown, upload-shown, length-shown, v
 use Rattle.refine.specs.Turned.{Agree, Agrees, kept, ends, runs}
 
 -- an upload in its ranges, over the state's records
-pub record RunRanged (k : ℕ) (r : Run) : Type 0 where
-  pub most : r .count ≤ sizeOf k
-  pub next : r .next < r .count
+record RunRanged (k : ℕ) (r : Run) : Type 0 where
+  most : r .count ≤ sizeOf k
+  next : r .next < r .count
 
 run-ranged : (s : Bytes) (half : Bool) (k : ℕ) (r : Run) → uploadInRange k (uploadIn s half k (Running r)) ≡ true → RunRanged k r
 unfolding uploadInRange uploadIn
@@ -69,6 +69,14 @@ module _ (st : State) (s : Bytes) (ranged : inRange (view st s) ≡ true) where
       let parts = both (leb (model.lengthOf (view st s .shown) k) (sizeOf k)) (uploadInRange k (model.uploadOf (view st s) k)) (ranged-kind (view st s) ranged k known) in
       subst (λ (u : model.Upload). uploadInRange k u ≡ true) (upload-shown st s k known) (parts .1)
 
+  -- the next place of an upload is one of its kind's
+  pub next-below : (k : ℕ) → isKnown k ≡ true → (r : Run) → planOf st k .upload ≡ Running r → r .next < sizeOf k
+  next-below k known r runs =
+      let h = run-ranged s (not (planOf st k .half)) k r (subst (λ (u : Upload). uploadInRange k (uploadIn s (not (planOf st k .half)) k u) ≡ true) runs (upload-ranged k known)) in
+      let a = h .most in
+      let b = h .next in
+      omega arith
+
 -- the number that an upload expects; 0 where none runs
 next-of : Upload → ℕ
 next-of Idle = 0
@@ -83,11 +91,8 @@ module _ (st : State) (s : Bytes) (long : storeBytes ≤ length s) (ranged : inR
   small : k ≤ rally
   small = leb-true k rally known
 
-  in-range : RunRanged k r
-  in-range = run-ranged s (not (planOf st k .half)) k r (subst (λ (u : Upload). uploadInRange k (uploadIn s (not (planOf st k .half)) k u) ≡ true) running-it (upload-ranged st s ranged k known))
-
   below : r .next < sizeOf k
-  below = let a = in-range .most in let b = in-range .next in omega arith
+  below = next-below st s ranged k known r running-it
 
   apart : (half′ : Bool) (j m : ℕ) → isKnown j ≡ true → m ≤ sizeOf j → Apart (not (planOf st k .half)) k (r .next) half′ j m → itemsIn s′ half′ j m ≡ itemsIn s half′ j m
   apart half′ j m known′ le a = items-apart s long (itemOf item) (length-itemOf item) (not (planOf st k .half)) k (r .next) small below half′ j m (leb-true j rally known′) le a

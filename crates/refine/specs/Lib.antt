@@ -3,3 +3,5 @@ pub mod Views
 pub mod Turned
 pub mod Items
 pub mod Messages
+pub mod Promise
+pub mod Steps

@@ -14,7 +14,7 @@ use Rattle.rules.specs.Model as model
 use Rattle.rules.specs.Model.{Model, idle, every, isOthers, isOwn, shownNumber, choose, withPlan, inRange}
 use Rattle.rules.specs.Calls.{Request, chooses, asksList, announces, clears, acknowledges, asksItem, brings, isKnown}
 use Rattle.rules.specs.Step.{Stepped, Answer, says, silent, acks, idleAt, covered, anyOthers, currentOf, refusalText, onClear, onList, onRequest, onSetCurrent, onKnown, kindOk, onMessage, onAck}
-use Rattle.rules.specs.Laws.Tests.{both, either₂}
+use Rattle.rules.specs.Laws.Tests.{both, either, either₂}
 use Rattle.rules.specs.Laws.Kinds.{covered-known}
 use Rattle.plan.specs.declared.State.{State}
 use Rattle.plan.specs.declared.Plan.{Plan}
@@ -23,8 +23,9 @@ use Rattle.plan.specs.declared.Upload.the-variants.{Idle, Running}
 use Rattle.plan.specs.Places.{itemsIn, itemAt, length-items, items-at}
 use Rattle.plan.specs.View.{emptyPlan, planOf, planIn, uploadIn, view}
 use Rattle.engine.specs.declared.Say.the-variants.{Silent, Ack, Ask}
+use Rattle.engine.specs.declared.Turned.{Turned}
 use Rattle.engine.specs.Turns.{emptied, renews, othersUpload, ackTurned, ownUpload, keeps, ended}
-use Rattle.engine.specs.Whole.{Done, gives, turnedState, turns, clearedState, othersAmong, clearDone, numberShown, listDone, requestDone, chosenState, chooseDone, knownDone, messageDone}
+use Rattle.engine.specs.Whole.{Done, answerOf, gives, turnedState, turns, clearedState, othersAmong, clearDone, numberShown, listDone, requestDone, chosenState, chooseDone, knownDone, messageDone}
 use Rattle.refine.specs.Views.{plan-shown, upload-shown, length-shown, same-state, view-renewed}
 use Rattle.refine.specs.Turned.{Agree, others-shown, own-shown, empties, count-agrees, ack-agrees}
 use Rattle.refine.specs.Items.{item-agrees}
@@ -115,14 +116,22 @@ module _ (st : State) (s : Bytes) (three : length (st .plans) ≡ length kinds) 
   unfolding view
   no-upload k e = let past : length (view st s .uploads) ≤ k = leb-false k rally e in List·getD-eq-default (view st s .uploads) idle past
 
+  -- an ACK of an unknown kind changes nothing
+  pub unknown-state : (from : Station) (k result : ℕ) → isKnown k ≡ false → turnedState st k (ackTurned (planOf st k) from result) ≡ st
+  unfolding ackTurned ownUpload
+  unknown-state from k result e =
+      ap (λ (u : Upload). turnedState st k (cond (ownUpload from u && not (eqb result accepted)) (keeps (ended (planOf st k)) Silent) (keeps (planOf st k) Silent)))
+      (ap (λ (p : Plan). p .upload) (no-plan k e))
+      ∙ same-state st k Silent
+
   unknown-ack : (from : Station) (k result : ℕ) → isKnown k ≡ false → Agree (turns st s k from (ackTurned (planOf st k) from result)) (onAck (view st s) from k result)
-  unfolding ackTurned onAck ownUpload isOwn
+  unfolding ackTurned onAck isOwn
   unknown-ack from k result e =
-      let still : turnedState st k (keeps (planOf st k) Silent) ≡ st = same-state st k Silent in
       rw (no-upload k e)
-      (subst (λ (u : Upload). Agree (turns st s k from (cond (ownUpload from u && not (eqb result accepted)) (keeps (ended (planOf st k)) Silent) (keeps (planOf st k) Silent))) (record { model = view st s; answer = silent }))
-      (sym (ap (λ (p : Plan). p .upload) (no-plan k e)))
-      (record { model = ap (λ (x : State). view x s) still; answer = refl }))
+      (record {
+        model = ap (λ (x : State). view x s) (unknown-state from k result e);
+        answer = either (λ (t : Turned). answerOf (t .say) from k ≡ silent) (ownUpload from (planOf st k .upload) && not (eqb result accepted)) (λ t. refl) (λ t. refl);
+      })
 
   any-ack-agrees : (from : Station) (k result : ℕ) → Agree (turns st s k from (ackTurned (planOf st k) from result)) (onAck (view st s) from k result)
   any-ack-agrees from k result = go (isKnown k) refl

@@ -1,0 +1,352 @@
+-- What the engine's step keeps of the promise: the model, the answer, halves, and every byte beside the next place of an upload.
+use Prim.Native.Nat.{ℕ, zero, suc, _+_, _≤_, _<_}
+use native.Mathlib.Omega.{arith}
+use mathlib.Core.Path.{_≡_, refl, sym, ap, ap₂, subst, _∙_}
+use mathlib.Core.Logic.{_⊎_, inl, inr, ⊎-elim}
+use mathlib.Core.List.{List, [], _∷_, _++_}
+use mathlib.Core.Bool.{Bool, true, false, true≢false, not, cond, _&&_, _||_}
+use lib.ListN.{length, getD, set, length-set}
+use lib.Dec.{eqb, leb, ltb}
+use borrow.Author.Tests.{leb-true, le-leb, eq-eqb, ne-eqb, eqb-true, eqb-false, ltb-true, ltb-false, leb-false}
+use Rattle.rules.specs.Limits.{flight, rally, kinds, everyKind, sizeOf, itemBytes, storeBytes, accepted, maxRepeats, expiryMs, lastNumber}
+use Rattle.rules.specs.Payload.{Bytes}
+use Rattle.rules.specs.Messages.{Station, Item, itemOf}
+use Rattle.rules.specs.Model as model
+use Rattle.rules.specs.Model.{Model, nextNumber, elapsed, wholeOk, every, inRange}
+use Rattle.rules.specs.Calls.{Call, Request, chooses, asksList, announces, clears, acknowledges, asksItem, brings, Heard, refuses, request, expiry, commandDone, isKnown, heard}
+use Rattle.rules.specs.NextCommand.{next, answerOf, advance}
+use Rattle.rules.specs.Step.{Answer, refused, orders, isRefused, Stepped, covered, kindOk, onMessage, onTimer, act, step}
+use Rattle.rules.specs.Laws.Tests.{both, either}
+use Rattle.rules.specs.Laws.Kinds.{covered-known}
+use Rattle.rules.specs.Laws.Lists.{at-set}
+use Rattle.rules.specs.Laws.Layout.{length-itemOf}
+use Rattle.rules.specs.Laws.Refused.{message-answered, timer-answered}
+use Rattle.plan.specs.declared.State.{State}
+use Rattle.plan.specs.declared.Plan.{Plan}
+use Rattle.plan.specs.declared.Run.{Run}
+use Rattle.plan.specs.declared.Upload.{Upload}
+use Rattle.plan.specs.declared.Upload.the-variants.{Idle, Running}
+use Rattle.plan.specs.Part.{length-put, getD-put-before, getD-put-after}
+use Rattle.plan.specs.Places.{itemsIn, offsetOf, offset-within}
+use Rattle.plan.specs.Writes.{putAt, length-stays}
+use Rattle.plan.specs.View.{emptyPlan, planOf, view}
+use Rattle.engine.specs.declared.Say.the-variants.{Silent}
+use Rattle.engine.specs.declared.Turned.{Turned}
+use Rattle.engine.specs.Turns.{ended, emptied, keeps, renews, isFrom, othersUpload, ownUpload, countTurned, ackTurned, timerTurned, Took, takesItem, itemVerdict, itemTook, stored}
+use Rattle.engine.specs.Whole.{Done, gives, turnedState, turns, clearedState, othersAmong, clearDone, listDone, requestDone, chooseDone, knownDone, messageDone, timerDone}
+use Rattle.refine.specs.Views.{plan-shown}
+use Rattle.refine.specs.Turned.{Agree, timer-agrees}
+use Rattle.refine.specs.Items.{next-below}
+use Rattle.refine.specs.Messages.{unknown-state, message-agrees}
+use Rattle.refine.specs.Promise.{numberOf}
+
+-- in which half a kind's plan stands
+abbrev pub halfOf : State → ℕ → Bool
+halfOf st k = planOf st k .half
+
+-- ---- halves
+
+-- a plan's half turns over exactly where its number moved
+abbrev HalfOk : Plan → Plan → Type 0
+HalfOk before after = after .half ≡ cond (eqb (after .number) (before .number)) (before .half) (not (before .half))
+
+-- the number after n is another
+next-moves : (n : ℕ) → eqb (nextNumber n) n ≡ false
+unfolding nextNumber
+next-moves n = go (eqb n lastNumber) refl
+  where
+    go : (t : Bool) → eqb n lastNumber ≡ t → eqb (cond t 1 (n + 1)) n ≡ false
+    go true t = let last : n ≡ lastNumber = eqb-true n lastNumber t in ne-eqb 1 n (λ e. omega arith)
+    go false t = ne-eqb (n + 1) n (λ e. omega arith)
+
+-- a plan that keeps its half and number
+stays-ok : (p q : Plan) → q .half ≡ p .half → q .number ≡ p .number → HalfOk p q
+stays-ok p q h n = h ∙ ap (λ (t : Bool). cond t (p .half) (not (p .half))) (sym (eq-eqb (q .number) (p .number) n))
+
+abbrev TurnOk : Plan → Turned → Type 0
+TurnOk p t = HalfOk p (t .plan)
+
+module _ (p : Plan) where
+  same-ok : HalfOk p p
+  same-ok = stays-ok p p refl refl
+
+  ended-ok : HalfOk p (ended p)
+  ended-ok = stays-ok p (ended p) refl refl
+
+  count-ok : (from : Station) (now n size : ℕ) → TurnOk p (countTurned p from now n size)
+  unfolding countTurned
+  count-ok from now n size =
+      either (TurnOk p) (othersUpload from (p .upload)) (λ t. same-ok)
+      (λ t. either (TurnOk p) (ltb size n) (λ t. ended-ok) (λ t. either (TurnOk p) (eqb n 0) (λ t. stays-ok p (emptied p) refl refl) (λ t. same-ok)))
+
+  ack-ok : (from : Station) (result : ℕ) → TurnOk p (ackTurned p from result)
+  unfolding ackTurned
+  ack-ok from result = either (TurnOk p) (ownUpload from (p .upload) && not (eqb result accepted)) (λ t. ended-ok) (λ t. same-ok)
+
+  timer-ok : (u : Upload) (now : ℕ) → TurnOk p (timerTurned u p now)
+  unfolding timerTurned
+  timer-ok Idle now = same-ok
+  timer-ok (Running r) now =
+      either (TurnOk p) (ltb (elapsed now (r .started)) expiryMs) (λ t. same-ok) (λ t. either (TurnOk p) (ltb (r .repeats) maxRepeats) (λ t. same-ok) (λ t. ended-ok))
+
+  replaced-ok : (n : ℕ) → HalfOk p (record { len = n; half = not (p .half); number = nextNumber (p .number); upload = Idle })
+  replaced-ok n = ap (λ (t : Bool). cond t (p .half) (not (p .half))) (sym (next-moves (p .number)))
+
+  abbrev TookOk : Took → Type 0
+  TookOk t = TurnOk p (t .turned)
+
+  takes-ok : (s : Bytes) (kind : ℕ) (r : Run) (now : ℕ) → TookOk (takesItem s kind p r now)
+  unfolding takesItem
+  takes-ok s kind r now =
+      either TookOk (not (eqb (r .next + 1) (r .count))) (λ t. same-ok) (λ t. either TookOk (wholeOk kind _) (λ t. replaced-ok (r .count)) (λ t. ended-ok))
+
+  item-ok : (s : Bytes) (kind : ℕ) (u : Upload) (from : Station) (now : ℕ) (item : Item) → TookOk (itemTook s kind u p from now item)
+  unfolding itemTook
+  item-ok s kind Idle from now item = same-ok
+  item-ok s kind (Running r) from now item =
+      either TookOk (not (isFrom from r)) (λ t. same-ok)
+      (λ t. either TookOk (not (eqb (item .seq) (r .next))) (λ t. same-ok)
+      (λ t. either TookOk (not (eqb (itemVerdict s kind p r item) accepted)) (λ t. ended-ok) (λ t. takes-ok (stored s kind p r item) kind r now)))
+
+-- ---- halves of the whole state
+
+abbrev pub HalvesOk : State → State → Type 0
+HalvesOk st st′ = (j : ℕ) → isKnown j ≡ true → HalfOk (planOf st j) (planOf st′ j)
+
+halves-same : (st : State) → HalvesOk st st
+halves-same st j known = same-ok (planOf st j)
+
+known-below : (k : ℕ) → isKnown k ≡ true → k < length kinds
+known-below k known = let le : k ≤ rally = leb-true k rally known in omega arith
+
+turned-plan : (st : State) → length (st .plans) ≡ length kinds → (k j : ℕ) (t : Turned) → isKnown k ≡ true → planOf (turnedState st k t) j ≡ cond (eqb k j) (t .plan) (planOf st j)
+unfolding turnedState
+turned-plan st three k j t known = at-set (st .plans) k j (t .plan) emptyPlan (rw three (known-below k known))
+
+turned-halves : (st : State) → length (st .plans) ≡ length kinds → (k : ℕ) (t : Turned) → isKnown k ≡ true → TurnOk (planOf st k) t → HalvesOk st (turnedState st k t)
+turned-halves st three k t known ok j known′ =
+    rw (turned-plan st three k j t known)
+    (either (HalfOk (planOf st j)) (eqb k j) (λ e. subst (λ (i : ℕ). HalfOk (planOf st i) (t .plan)) (eqb-true k j e) ok) (λ e. same-ok (planOf st j)))
+
+-- a clear keeps every half and number
+record Still (st st′ : State) : Type 0 where
+  half : (j : ℕ) → planOf st′ j .half ≡ planOf st j .half
+  number : (j : ℕ) → planOf st′ j .number ≡ planOf st j .number
+
+cleared-still : (st : State) → length (st .plans) ≡ length kinds → (ks : List ℕ) → every isKnown ks ≡ true → Still st (clearedState st ks)
+unfolding turnedState
+cleared-still st three [] known = record { half = λ j. refl; number = λ j. refl }
+cleared-still st three (k ∷ ks) known =
+    let parts = both (isKnown k) (every isKnown ks) known in
+    let t = renews (emptied (planOf st k)) Silent in
+    let rest = cleared-still (turnedState st k t) (length-set (st .plans) k (emptied (planOf st k)) ∙ three) ks (parts .1) in
+    let at : (j : ℕ) → planOf (turnedState st k t) j ≡ cond (eqb k j) (emptied (planOf st k)) (planOf st j) = λ j. turned-plan st three k j t (parts .0) in
+    record {
+      half = λ j. rest .half j ∙ ap (λ (p : Plan). p .half) (at j) ∙ either (λ (p : Plan). p .half ≡ planOf st j .half) (eqb k j) (λ e. ap (λ (i : ℕ). planOf st i .half) (eqb-true k j e)) (λ e. refl);
+      number = λ j. rest .number j ∙ ap (λ (p : Plan). p .number) (at j) ∙ either (λ (p : Plan). p .number ≡ planOf st j .number) (eqb k j) (λ e. ap (λ (i : ℕ). planOf st i .number) (eqb-true k j e)) (λ e. refl);
+    }
+
+still-halves : (st st′ : State) → Still st st′ → HalvesOk st st′
+still-halves st st′ h j known = stays-ok (planOf st j) (planOf st′ j) (h .half j) (h .number j)
+
+-- ---- the store beside the next place of an upload
+
+-- "except the 38 bytes of the expected item's place in its kind's other half": byte i is one of them
+unfoldable pub spareIn : Plan → (kind : ℕ) → Upload → ℕ → Bool
+spareIn p kind Idle i = false
+spareIn p kind (Running r) i = leb (offsetOf (not (p .half)) kind (r .next)) i && ltb i (offsetOf (not (p .half)) kind (r .next) + itemBytes)
+
+-- "and these only for an item message"
+unfoldable pub spareAt : State → Heard → ℕ → Bool
+spareAt st (request from now kind (brings item)) i = isKnown kind && spareIn (planOf st kind) kind (planOf st kind .upload) i
+spareAt st (request from now kind (chooses seq)) i = false
+spareAt st (request from now kind asksList) i = false
+spareAt st (request from now kind (announces n)) i = false
+spareAt st (request from now kind clears) i = false
+spareAt st (request from now kind (acknowledges result)) i = false
+spareAt st (request from now kind (asksItem seq)) i = false
+spareAt st (refuses outcome) i = false
+spareAt st (expiry now kind) i = false
+spareAt st commandDone i = false
+
+-- the bytes that a call may change though nothing shows them
+abbrev pub spare : State → Call → ℕ → Bool
+spare st c i = spareAt st (heard true c) i
+
+record Beside (s : Bytes) (free : ℕ → Bool) (s′ : Bytes) : Type 0 where
+  bytes : (i : ℕ) → free i ≡ false → getD s′ i 0 ≡ getD s i 0
+  long : length s′ ≡ length s
+
+beside-same : (s : Bytes) (free : ℕ → Bool) → Beside s free s
+beside-same s free = record { bytes = λ i e. refl; long = refl }
+
+-- a byte outside the 38 from `at` is before or after them
+outside : (at i : ℕ) → (leb at i && ltb i (at + itemBytes)) ≡ false → (i < at) ⊎ (at + itemBytes ≤ i)
+outside at i e = go (leb at i) (ltb i (at + itemBytes)) refl refl
+  where
+    go : (t u : Bool) → leb at i ≡ t → ltb i (at + itemBytes) ≡ u → (i < at) ⊎ (at + itemBytes ≤ i)
+    go false u a b = inl (leb-false at i a)
+    go true false a b = inr (ltb-false i (at + itemBytes) b)
+    go true true a b = absurd (true≢false (sym (ap₂ _&&_ a b) ∙ e))
+
+module _ (st : State) (s : Bytes) (long : storeBytes ≤ length s) (ranged : inRange (view st s) ≡ true) (k : ℕ) (known : isKnown k ≡ true) where
+  -- a write at the upload's next place
+  written : (r : Run) (item : Item) → planOf st k .upload ≡ Running r → Beside s (spareIn (planOf st k) k (Running r)) (stored s k (planOf st k) r item)
+  unfolding spareIn
+  written r item runs =
+      let half = not (planOf st k .half) in
+      let at = offsetOf half k (r .next) in
+      let small : k ≤ rally = leb-true k rally known in
+      let below : r .next < sizeOf k = next-below st s ranged k known r runs in
+      let whole = length-itemOf item in
+      let fits : at + length (itemOf item) ≤ length s = omega (arith, offset-within half k (r .next) small below) in
+      record {
+        bytes = λ i e.
+            ⊎-elim (λ (lower : i < at). getD-put-before s at (itemOf item) fits i lower) (λ (upper : at + itemBytes ≤ i). getD-put-after s at (itemOf item) fits i (omega arith))
+            (outside at i e);
+        long = length-stays s long (itemOf item) whole half k (r .next) small below;
+      }
+
+  item-beside : (u : Upload) → planOf st k .upload ≡ u → (from : Station) (now : ℕ) (item : Item) → Beside s (spareIn (planOf st k) k u) (itemTook s k u (planOf st k) from now item .store)
+  unfolding itemTook takesItem
+  item-beside Idle e from now item = beside-same s (spareIn (planOf st k) k Idle)
+  item-beside (Running r) e from now item =
+      let free = spareIn (planOf st k) k (Running r) in
+      let p = planOf st k in
+      let s′ = stored s k p r item in
+      let after = written r item e in
+      either (λ (t : Took). Beside s free (t .store)) (not (isFrom from r)) (λ t. beside-same s free)
+      (λ t. either (λ (t : Took). Beside s free (t .store)) (not (eqb (item .seq) (r .next))) (λ t. beside-same s free)
+      (λ t. either (λ (t : Took). Beside s free (t .store)) (not (eqb (itemVerdict s k p r item) accepted)) (λ t. beside-same s free)
+      (λ t. either (λ (t : Took). Beside s free (t .store)) (not (eqb (r .next + 1) (r .count))) (λ t. after)
+      (λ t. either (λ (t : Took). Beside s free (t .store)) (wholeOk k (itemsIn s′ (not (p .half)) k (r .count))) (λ t. after) (λ t. after)))))
+
+-- ---- every message
+
+module _ (st : State) (s : Bytes) (three : length (st .plans) ≡ length kinds) (long : storeBytes ≤ length s) (ranged : inRange (view st s) ≡ true) (from : Station) (now k : ℕ) where
+  abbrev halvesKept : Done → Type 0
+  halvesKept d = HalvesOk st (d .state)
+
+  ack-halves : (result : ℕ) → HalvesOk st (turnedState st k (ackTurned (planOf st k) from result))
+  ack-halves result = go (isKnown k) refl
+    where
+      go : (t : Bool) → isKnown k ≡ t → HalvesOk st (turnedState st k (ackTurned (planOf st k) from result))
+      go true known = turned-halves st three k (ackTurned (planOf st k) from result) known (ack-ok (planOf st k) from result)
+      go false e = subst (HalvesOk st) (sym (unknown-state st s three from k result e)) (halves-same st)
+
+  known-halves : (r : Request) → kindOk k r ≡ true → halvesKept (knownDone st s from now k r)
+  unfolding knownDone kindOk chooseDone listDone requestDone clearDone
+  known-halves (chooses seq) ok = either halvesKept (ltb seq (planOf st flight .len)) (λ t. halves-same st) (λ t. halves-same st)
+  known-halves asksList ok = halves-same st
+  known-halves (announces n) ok = turned-halves st three k (countTurned (planOf st k) from now n (sizeOf k)) ok (count-ok (planOf st k) from now n (sizeOf k))
+  known-halves clears ok =
+      either halvesKept (othersAmong st from (covered k)) (λ t. halves-same st)
+      (λ t. still-halves st (clearedState st (covered k)) (cleared-still st three (covered k) (covered-known k ok)))
+  known-halves (acknowledges result) ok = ack-halves result
+  known-halves (asksItem seq) ok = either halvesKept (ltb seq (planOf st k .len)) (λ t. halves-same st) (λ t. halves-same st)
+  known-halves (brings item) ok =
+      turned-halves st three k (itemTook s k (planOf st k .upload) (planOf st k) from now item .turned) ok (item-ok (planOf st k) s k (planOf st k .upload) from now item)
+
+  message-halves : (r : Request) → halvesKept (messageDone st s from now k r)
+  unfolding messageDone
+  message-halves r = either halvesKept (kindOk k r) (known-halves r) (λ t. halves-same st)
+
+  abbrev Left : Request → Done → Type 0
+  Left r d = Beside s (spareAt st (request from now k r)) (d .store)
+
+  known-beside : (r : Request) → kindOk k r ≡ true → Left r (knownDone st s from now k r)
+  unfolding knownDone kindOk chooseDone listDone requestDone clearDone spareAt
+  known-beside (chooses seq) ok = either (Left (chooses seq)) (ltb seq (planOf st flight .len)) (λ t. beside-same s (λ i. false)) (λ t. beside-same s (λ i. false))
+  known-beside asksList ok = beside-same s (λ i. false)
+  known-beside (announces n) ok = beside-same s (λ i. false)
+  known-beside clears ok = either (Left clears) (othersAmong st from (covered k)) (λ t. beside-same s (λ i. false)) (λ t. beside-same s (λ i. false))
+  known-beside (acknowledges result) ok = beside-same s (λ i. false)
+  known-beside (asksItem seq) ok = either (Left (asksItem seq)) (ltb seq (planOf st k .len)) (λ t. beside-same s (λ i. false)) (λ t. beside-same s (λ i. false))
+  known-beside (brings item) ok =
+      let after = item-beside st s long ranged k ok (planOf st k .upload) refl from now item in
+      record { bytes = λ i e. after .bytes i (rw ok at e); long = after .long }
+
+  message-beside : (r : Request) → Left r (messageDone st s from now k r)
+  unfolding messageDone
+  message-beside r = either (Left r) (kindOk k r) (known-beside r) (λ t. beside-same s (spareAt st (request from now k r)))
+
+-- ---- what every call keeps of the promise
+
+-- the engine's step d of call c
+pub record Steps (c : Call) (st : State) (s : Bytes) (d : Done) : Type 0 where
+  pub model : view (d .state) (d .store) ≡ step (view st s) c .model
+  pub answer : d .answer ≡ step (view st s) c .answer
+  pub halves :
+      (k : ℕ) → k ≤ rally
+      → halfOf (d .state) k ≡ cond (eqb (numberOf (step (view st s) c .model) k) (numberOf (view st s) k)) (halfOf st k) (not (halfOf st k))
+  pub unchanged : isRefused (step (view st s) c .answer) ≡ true → (d .state ≡ st) × (d .store ≡ s)
+  pub beside : (i : ℕ) → spare st c i ≡ false → getD (d .store) i 0 ≡ getD s i 0
+  pub long : length (d .store) ≡ length s
+
+-- the halves, by the numbers that the models show
+shown-halves :
+    (st st′ : State) (s s′ : Bytes) (m : Model) → HalvesOk st st′ → view st′ s′ ≡ m → (k : ℕ) → k ≤ rally
+    → halfOf st′ k ≡ cond (eqb (numberOf m k) (numberOf (view st s) k)) (halfOf st k) (not (halfOf st k))
+shown-halves st st′ s s′ m ok e k small =
+    let known = le-leb k rally small in
+    let before = ap (λ (p : model.Plan). p .number) (plan-shown st s k known) in
+    let after = ap (λ (x : Model). numberOf x k) (sym e) ∙ ap (λ (p : model.Plan). p .number) (plan-shown st′ s′ k known) in
+    ok k known ∙ sym (ap₂ (λ (a b : ℕ). cond (eqb a b) (halfOf st k) (not (halfOf st k))) after before)
+
+-- a refused call
+pub refused-steps : (c : Call) (st : State) (s : Bytes) (outcome : ℕ) → heard (inRange (view st s)) c ≡ refuses outcome → Steps c st s (gives st s (refused outcome))
+unfolding step act
+refused-steps c st s outcome e =
+    let stepped : step (view st s) c ≡ record { model = view st s; answer = refused outcome } = ap (act (view st s)) e in
+    record {
+      model = sym (ap (λ (x : Stepped). x .model) stepped);
+      answer = sym (ap (λ (x : Stepped). x .answer) stepped);
+      halves = shown-halves st st s s (step (view st s) c .model) (halves-same st) (sym (ap (λ (x : Stepped). x .model) stepped));
+      unchanged = λ t. (refl, refl);
+      beside = λ i t. refl;
+      long = refl;
+    }
+
+-- a step that is the rules' of what is heard, and is no refusal
+heard-steps :
+    (c : Call) (st : State) (s : Bytes) (h : Heard) (d : Done) → inRange (view st s) ≡ true → heard (inRange (view st s)) c ≡ h → Agree d (act (view st s) h)
+    → HalvesOk st (d .state) → isRefused (act (view st s) h .answer) ≡ false → Beside s (spareAt st h) (d .store) → Steps c st s d
+unfolding step
+heard-steps c st s h d ranged e agree halves answered beside =
+    let stepped : act (view st s) h ≡ step (view st s) c = ap (act (view st s)) (sym e) in
+    let same : heard true c ≡ h = ap (λ (t : Bool). heard t c) (sym ranged) ∙ e in
+    record {
+      model = agree .model ∙ ap (λ (x : Stepped). x .model) stepped;
+      answer = agree .answer ∙ ap (λ (x : Stepped). x .answer) stepped;
+      halves = shown-halves st (d .state) s (d .store) (step (view st s) c .model) halves (agree .model ∙ ap (λ (x : Stepped). x .model) stepped);
+      unchanged = λ t. absurd (true≢false (sym t ∙ sym (ap (λ (x : Stepped). isRefused (x .answer)) stepped) ∙ answered));
+      beside = λ i t. beside .bytes i (subst (λ (g : Heard). spareAt st g i ≡ false) same t);
+      long = beside .long;
+    }
+
+module _ (c : Call) (st : State) (s : Bytes) (three : length (st .plans) ≡ length kinds) (ranged : inRange (view st s) ≡ true) where
+  -- a message that is not refused
+  pub message-steps :
+      storeBytes ≤ length s → (from : Station) (now k : ℕ) (r : Request) → heard (inRange (view st s)) c ≡ request from now k r
+      → Steps c st s (messageDone st s from now k r)
+  unfolding act
+  message-steps long from now k r e =
+      heard-steps c st s (request from now k r) (messageDone st s from now k r) ranged e (message-agrees st s three long ranged from now k r)
+      (message-halves st s three long ranged from now k r) (message-answered (view st s) from now k r) (message-beside st s three long ranged from now k r)
+
+  -- a timer call that is not refused
+  pub timer-steps : (now k : ℕ) → isKnown k ≡ true → heard (inRange (view st s)) c ≡ expiry now k → Steps c st s (timerDone st s now k)
+  unfolding act timerDone spareAt
+  timer-steps now k known e =
+      heard-steps c st s (expiry now k) (timerDone st s now k) ranged e (timer-agrees st s three k known now)
+      (turned-halves st three k (timerTurned (planOf st k .upload) (planOf st k) now) known (timer-ok (planOf st k) (planOf st k .upload) now))
+      (timer-answered (view st s) (model.uploadOf (view st s) k) now k) (beside-same s (λ i. false))
+
+  -- a "command done" call that is not refused, by the next command's own promise
+  pub done-steps :
+      (st′ : State) → view st′ s ≡ record { shown = advance (view st s .shown); uploads = view st s .uploads } → st′ .plans ≡ st .plans
+      → heard (inRange (view st s)) c ≡ commandDone → Steps c st s (gives st′ s (orders (answerOf (next (view st s .shown)))))
+  unfolding act spareAt
+  done-steps st′ shows plans e =
+      heard-steps c st s commandDone (gives st′ s (orders (answerOf (next (view st s .shown))))) ranged e (record { model = shows; answer = refl })
+      (λ j known. subst (HalfOk (planOf st j)) (ap (λ (l : List Plan). getD l j emptyPlan) (sym plans)) (same-ok (planOf st j))) refl (beside-same s (λ i. false))
