@@ -2,4 +2,6 @@
 pub mod Uploads
 pub mod Tracks
 pub mod Rules
+pub mod Demand3
+pub mod Service
 pub mod Laws

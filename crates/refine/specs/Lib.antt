@@ -5,3 +5,4 @@ pub mod Items
 pub mod Messages
 pub mod Promise
 pub mod Steps
+pub mod Front

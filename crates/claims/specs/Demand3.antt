@@ -1,0 +1,175 @@
+-- Demand 3: one statement over every list of calls, each lent the state and a front part of the store as the last one left them.
+use Prim.Native.Nat.{ℕ, _≤_, _<_}
+use mathlib.Core.Path.{_≡_, refl, sym, ap, ap₂, subst, _∙_}
+use mathlib.Core.List.{List, [], _∷_, _++_, map}
+use mathlib.Core.Bool.{Bool, true, false}
+use lib.ListN.{length}
+use lib.Dec.{eqb, ltb}
+use borrow.Author.Tests.{ltb-true, ltb-false, lt-ltb}
+use Rattle.rules.specs.Limits.{rally, storeBytes, sizeOf, outOfRange, shortStore}
+use Rattle.rules.specs.Limits
+use Rattle.rules.specs.Payload.{Bytes}
+use Rattle.rules.specs.Messages.{Station, ack}
+use Rattle.rules.specs.Model.{Model, fresh, inRange, put, empty}
+use Rattle.rules.specs.NextCommand.{Command}
+use Rattle.rules.specs.Calls.{Call, message, timer, done, announces, Heard, refuses, request, heard}
+use Rattle.rules.specs.Step.{Answer, refused, says, outcomeOf, replyId, replyBytes, commandIn, isRefused, Stepped, act, step, run, answers}
+use Rattle.refine.specs.Promise.{Result, Serves}
+use Rattle.claims.specs.Uploads.{shownBy, answerTo, hears, letIn, Open, Completes, Empties, Stroke}
+use Rattle.claims.specs.Rules.{never-out-of-range, only-strokes, takes-effect, empties-effect, lets-in, denies}
+use Rattle.claims.specs.Laws.Ranged.{Formed, fresh-formed, formed-ranged}
+use Rattle.claims.specs.Laws.Kept.{step-kept}
+
+-- how much of the store, and how long a reply buffer, a call is lent
+abbrev pub storeLent : Call → ℕ
+storeLent (message own from id payload clock store reply) = store
+storeLent (timer kind clock store reply) = store
+storeLent (done store) = store
+
+abbrev pub bufferLent : Call → ℕ
+bufferLent (message own from id payload clock store reply) = reply
+bufferLent (timer kind clock store reply) = reply
+bufferLent (done store) = 0
+
+-- what a call returns beside the state
+pub record Numbers : Type 0 where
+  pub outcome : ℕ
+  pub id : ℕ
+  pub len : ℕ
+  pub command : Command
+
+-- what the rules' answer says of it
+abbrev pub numbersOf : Answer → Numbers
+numbersOf a = record { outcome = outcomeOf a; id = replyId a; len = length (replyBytes a); command = commandIn a }
+
+module _ (State : Type 0) (freshState : State) (view : State → Bytes → Model) (half : State → ℕ → Bool) (spare : State → Call → ℕ → Bool) where
+  abbrev pub numbers : Result State → Numbers
+  numbers r = record { outcome = r .outcome; id = r .id; len = r .len; command = r .command }
+
+  pub record World : Type 0 where
+    pub state : State
+    pub store : Bytes
+
+  -- A list of calls with their results. Each call gets the state and the store as the last one left them, and nobody else writes them meanwhile; it is
+  -- lent a front part of the store, and a reply buffer of any content.
+  pub data Trace : World → List Call → List (Result State) → World → Type 0 where
+    stop : (w : World) → Trace w [] [] w
+    call :
+        (w : World) (c : Call) (lent lent′ rest b b′ : Bytes) (r : Result State) (cs : List Call) (rs : List (Result State)) (z : World)
+        → w .store ≡ lent ++ rest → length lent ≡ storeLent c → length b ≡ bufferLent c
+        → Serves State view half spare c (w .state) lent lent′ b b′ r
+        → Trace (record { state = r .state; store = lent′ ++ rest }) cs rs z
+        → Trace w (c ∷ cs) (r ∷ rs) z
+
+  pub record Demand3 (cs : List Call) (rs : List (Result State)) (w : World) : Type 0 where
+    -- "after the list the plans, plan numbers, current item, whether it is begun, and jump counts are exactly those of the book", the uploads too
+    pub model : view (w .state) (w .store) ≡ run fresh cs
+    -- every answer is the rules'
+    pub answered : map numbers rs ≡ map numbersOf (answers fresh cs)
+    -- "15 can't come up"
+    pub ranged : (pre post : List Call) (c : Call) → cs ≡ pre ++ (c ∷ post) → answerTo pre c ≡ refused outOfRange → ⊥
+    -- "only completed uploads, allowed clears, accepted item choices and advances change these, each at one stroke"
+    pub only : (pre post : List Call) (c : Call) → cs ≡ pre ++ (c ∷ post) → Stroke pre c (shownBy (pre ++ (c ∷ [])))
+    -- an upload that arrives takes effect at its last item: "the sender's own items taken since its count, as they came, all and in order"
+    pub takes :
+        (pre post : List Call) (c : Call) → cs ≡ pre ++ (c ∷ post) → (k : ℕ) (items : List Bytes) → Completes pre c k items
+        → shownBy (pre ++ (c ∷ [])) ≡ put k items (shownBy pre)
+    -- "an empty one at its count", and an allowed clear
+    pub empties :
+        (pre post : List Call) (c : Call) → cs ≡ pre ++ (c ∷ post) → (ks : List ℕ) → Empties pre c ks → shownBy (pre ++ (c ∷ [])) ≡ empty ks (shownBy pre)
+    -- a fitting COUNT is let in unless another station's upload of the kind is open
+    pub letsIn :
+        (pre post : List Call) (c : Call) → cs ≡ pre ++ (c ∷ post) → (k : ℕ) (o : Station) (now n : ℕ) → hears c ≡ request o now k (announces n) → k ≤ rally → n ≤ sizeOf k
+        → ((o′ : Station) (n′ : ℕ) (got : List Bytes) (started repeats : ℕ) → Open k o′ n′ pre got started repeats → o′ ≡ o)
+        → letIn (answerTo pre c) ≡ true
+    -- and is denied then
+    pub denied :
+        (pre post : List Call) (c : Call) → cs ≡ pre ++ (c ∷ post) → (k : ℕ) (o o′ : Station) (n n′ : ℕ) (got : List Bytes) (started repeats now : ℕ)
+        → Open k o n pre got started repeats → (o′ ≡ o → ⊥) → hears c ≡ request o′ now k (announces n′) → answerTo pre c ≡ says (ack o′ Limits.denied k 0)
+
+  -- demand 3
+  pub Demand : Type 0
+  Demand = (s : Bytes) (cs : List Call) (rs : List (Result State)) (w : World) → Trace (record { state = freshState; store = s }) cs rs w → Demand3 cs rs w
+
+  -- ---- what the proof asks of the view: a fresh state shows the fresh model, ranges are the state's own, and a call's part of the store is enough
+
+  pub record Shows : Type 0 where
+    pub starts : (s : Bytes) → view freshState s ≡ fresh
+    pub ranges : (st : State) (s s′ : Bytes) → inRange (view st s) ≡ inRange (view st s′)
+    pub front : (st : State) (lent rest : Bytes) → storeBytes ≤ length lent → inRange (view st lent) ≡ true → view st (lent ++ rest) ≡ view st lent
+
+  module _ (shows : Shows) where
+    -- one call from a formed model
+    record Stepping (m : Model) (c : Call) (st′ : State) (s′ : Bytes) (r : Result State) : Type 0 where
+      after : view st′ s′ ≡ step m c .model
+      said : numbers r ≡ numbersOf (step m c .answer)
+
+    said-by : (m : Model) (c : Call) (st : State) (s s′ b b′ : Bytes) (r : Result State) → view st s ≡ m → Serves State view half spare c st s s′ b b′ r → numbers r ≡ numbersOf (step m c .answer)
+    said-by m c st s s′ b b′ r e serves =
+        (λ i. record { outcome = serves .outcome i; id = serves .id i; len = serves .len i; command = serves .command i }) ∙ ap (λ (x : Model). numbersOf (step x c .answer)) e
+
+    -- a call lent too short a part is refused, whatever the model
+    short : (m : Model) (c : Call) → ltb (storeLent c) storeBytes ≡ true → step m c ≡ record { model = m; answer = refused shortStore }
+    unfolding step act heard
+    short m (message own from id payload clock store reply) e = rw e
+    short m (timer kind clock store reply) e = rw e
+    short m (done store) e = rw e
+
+    one :
+        (m : Model) (c : Call) (st : State) (lent lent′ rest b b′ : Bytes) (r : Result State) → Formed m → view st (lent ++ rest) ≡ m → length lent ≡ storeLent c
+        → Serves State view half spare c st lent lent′ b b′ r → Stepping m c (r .state) (lent′ ++ rest) r
+    one m c st lent lent′ rest b b′ r f shown len serves = go (ltb (storeLent c) storeBytes) refl
+      where
+        ranged : inRange (view st lent) ≡ true
+        ranged = shows .ranges st lent (lent ++ rest) ∙ ap inRange shown ∙ formed-ranged m f
+
+        go : (t : Bool) → ltb (storeLent c) storeBytes ≡ t → Stepping m c (r .state) (lent′ ++ rest) r
+        go true t =
+            let refusal : (x : Model) → step x c ≡ record { model = x; answer = refused shortStore } = λ x. short x c t in
+            let same = serves .unchanged (ap (λ (x : Stepped). isRefused (x .answer)) (refusal (view st lent))) in
+            record {
+              after =
+                  ap₂ (λ (x : State) (l : Bytes). view x (l ++ rest)) (same .0) (same .1) ∙ shown ∙ sym (ap (λ (x : Stepped). x .model) (refusal m));
+              said =
+                  said-by (view st lent) c st lent lent′ b b′ r refl serves
+                  ∙ ap (λ (x : Stepped). numbersOf (x .answer)) (refusal (view st lent)) ∙ sym (ap (λ (x : Stepped). numbersOf (x .answer)) (refusal m));
+            }
+        go false t =
+            let long : storeBytes ≤ length lent = subst (λ (n : ℕ). storeBytes ≤ n) (sym len) (ltb-false (storeLent c) storeBytes t) in
+            let before : view st lent ≡ m = sym (shows .front st lent rest long ranged) ∙ shown in
+            let now : view (r .state) lent′ ≡ step m c .model = serves .model ∙ ap (λ (x : Model). step x c .model) before in
+            let kept : inRange (view (r .state) lent′) ≡ true = ap inRange now ∙ formed-ranged (step m c .model) (step-kept m c f) in
+            record {
+              after = shows .front (r .state) lent′ rest (subst (λ (n : ℕ). storeBytes ≤ n) (sym (serves .long)) long) kept ∙ now;
+              said = said-by m c st lent lent′ b b′ r before serves;
+            }
+
+    record Ends (m : Model) (cs : List Call) (rs : List (Result State)) (w : World) : Type 0 where
+      model : view (w .state) (w .store) ≡ run m cs
+      answered : map numbers rs ≡ map numbersOf (answers m cs)
+
+    ends : {cs : List Call} {rs : List (Result State)} {w z : World} (m : Model) → Formed m → view (w .state) (w .store) ≡ m → Trace w cs rs z → Ends m cs rs z
+    unfolding run answers
+    ends m f shown (stop w) = record { model = shown; answered = refl }
+    ends m f shown (call w c lent lent′ rest b b′ r cs rs z store len buffer serves more) =
+        let first = one m c (w .state) lent lent′ rest b b′ r f (ap (view (w .state)) (sym store) ∙ shown) len serves in
+        let later = ends (step m c .model) (step-kept m c f) (first .after) more in
+        record {
+          model = later .model;
+          answered = ap₂ {C = List Numbers} (λ (x : Numbers) (l : List Numbers). x ∷ l) (first .said) (later .answered);
+        }
+
+    pub demand3 : Demand
+    unfolding Demand
+    demand3 s cs rs w trace =
+        let all = ends fresh fresh-formed (shows .starts s) trace in
+        record {
+          model = all .model;
+          answered = all .answered;
+          ranged = λ pre post c e. never-out-of-range pre c;
+          only = λ pre post c e. only-strokes pre c;
+          takes = λ pre post c e. takes-effect pre c;
+          empties = λ pre post c e. empties-effect pre c;
+          letsIn = λ pre post c e. lets-in pre c;
+          denied = λ pre post c e. denies pre c;
+        }
