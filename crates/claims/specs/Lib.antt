@@ -4,4 +4,5 @@ pub mod Tracks
 pub mod Rules
 pub mod Demand3
 pub mod Service
+pub mod Corollaries
 pub mod Laws

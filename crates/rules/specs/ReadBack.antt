@@ -8,8 +8,8 @@ use lib.ListN.{length, getD, take, drop, length-append}
 use lib.Seq.{take-at, getD-at}
 use Rattle.rules.specs.Limits.{byteValues}
 use Rattle.rules.specs.Payload.{Bytes, numberAt, trim}
-use Rattle.rules.specs.Layouts.{Field, layoutOf, values, pack, textChars, statustextId}
-use Rattle.rules.specs.Messages.{Station, station, Item, Message, setCurrent, current, requestList, count, clearAll, ack, requestInt, itemInt, statustext, unknown, idOf, valuesOf, messageOf, encode, decode}
+use Rattle.rules.specs.Layouts.{Field, layoutOf, values, pack, textChars, itemIntId, statustextId}
+use Rattle.rules.specs.Messages.{Station, station, Item, Message, setCurrent, current, requestList, count, clearAll, ack, requestInt, itemInt, statustext, unknown, idOf, valuesOf, itemFrom, messageOf, encode, decode, itemOf, itemIn}
 use Rattle.rules.specs.Laws.Numbers.{numberAt-agree}
 use Rattle.rules.specs.Laws.Trim.{getD-trim}
 use Rattle.rules.specs.Laws.Layout.{FitFields, layouts-follow, values-pack}
@@ -60,6 +60,13 @@ reads-back m h =
     (values-agree fs (trim (pack fs (valuesOf m))) (pack fs (valuesOf m)) (getD-trim (pack fs (valuesOf m)))
     ∙ values-pack (layoutOf (idOf m) .full) fs (valuesOf m) [] (layouts-follow (idOf m)) h)
     ∙ same-message m h
+
+-- a stored item reads back as the item that was stored, "kept bit for bit, NaN included"
+pub item-reads-back : (item : Item) → Fits (itemInt (station 0 0) 0 item) → itemIn (itemOf item) ≡ item
+unfolding itemOf itemIn encode
+item-reads-back item h =
+    ap itemFrom
+    (values-pack (layoutOf itemIntId .full) (layoutOf itemIntId .fields) (valuesOf (itemInt (station 0 0) 0 item)) [] (layouts-follow itemIntId) h)
 
 -- Every reply of the step has fields that fit, where the model and the call fit: so every reply reads back as what was meant.
 pub replies-fit : (m : Model) (c : Call) → ModelFits m → CallFits c → AnswerFits (step m c .answer)

@@ -178,13 +178,22 @@ module _ (m : Model) (f : Formed m) (k : ℕ) (known : isKnown k ≡ true) (r : 
   foreign from e = rw (runs, e)
 
   -- a clear that covers the kind: of another station it is denied, and a denied one changes nothing
+  pub clear-others : (from : Station) (j : ℕ) → (eqb j k || eqb j everyKind) ≡ true → sameStation from (r .station) ≡ false → anyOthers m from (covered j) ≡ true
+  clear-others from j covers e = go (eqb j everyKind) refl
+    where
+      go : (t : Bool) → eqb j everyKind ≡ t → anyOthers m from (cond (eqb j everyKind) kinds (j ∷ [])) ≡ true
+      go true t = rw t (others-among m from k known (foreign from e))
+      go false t = rw (t, eqb-true j k (or-left (eqb j k) (eqb j everyKind) t covers), foreign from e)
+
   clear-foreign : (from : Station) (j : ℕ) → (eqb j k || eqb j everyKind) ≡ true → sameStation from (r .station) ≡ false → Same m f k (onClear m from j)
   unfolding onClear
-  clear-foreign from j covers e = rw (denied-too (eqb j everyKind) refl)
-    where
-      denied-too : (t : Bool) → eqb j everyKind ≡ t → anyOthers m from (cond (eqb j everyKind) kinds (j ∷ [])) ≡ true
-      denied-too true t = rw t (others-among m from k known (foreign from e))
-      denied-too false t = rw (t, eqb-true j k (or-left (eqb j k) (eqb j everyKind) t covers), foreign from e)
+  clear-foreign from j covers e = rw (clear-others from j covers e)
+
+  pub clear-denied :
+      (from : Station) (now j : ℕ) → (eqb j k || eqb j everyKind) ≡ true → sameStation from (r .station) ≡ false → letIn (act m (request from now j clears) .answer) ≡ false
+  unfolding act onMessage onKnown onClear
+  clear-denied from now j covers e =
+      either (λ (s : Stepped). letIn (s .answer) ≡ false) (kindOk j clears) (λ ok. rw (clear-others from j covers e)) (λ t. refl)
 
   -- what a call of the kind itself, or a clear that covers it, leaves as it is
   abbrev Passed : (from : Station) (now j : ℕ) → Request → Type 0
