@@ -162,20 +162,22 @@ item-spares :
     (pre : List Call) (c : Call) (k : ℕ) (o : Station) (n : ℕ) (got : List Bytes) (started repeats now : ℕ) (item : Item) → Open k o n pre got started repeats
     → hears c ≡ request o now k (brings item) → length got + 1 < n → Spares pre c k
 unfolding saying
-item-spares pre c k o n got started repeats now item up sent more =
-    (λ items done.
-    let same : runOf o n got started repeats ≡ runOf (done .o) (done .n) (done .got) (done .started) (done .repeats) = open-once up (done .upload) in
-    let count : n ≡ done .n = ap (λ (r : Run). r .count) same in
-    let long : length got ≡ length (done .got) = ap (λ (r : Run). length (r .taken)) same in
-    let last = done .last in
-    omega arith,
-    no-empty pre c k (other-saying c (request o now k (brings item)) 2 sent (λ e. omega arith)) (other-saying c (request o now k (brings item)) 3 sent (λ e. omega arith)))
+item-spares pre c k o n got started repeats now item up sent more = (
+  λ items done.
+      let same : runOf o n got started repeats ≡ runOf (done .o) (done .n) (done .got) (done .started) (done .repeats) = open-once up (done .upload) in
+      let count : n ≡ done .n = ap (λ (r : Run). r .count) same in
+      let long : length got ≡ length (done .got) = ap (λ (r : Run). length (r .taken)) same in
+      let last = done .last in
+      omega arith,
+  no-empty pre c k (other-saying c (request o now k (brings item)) 2 sent (λ e. omega arith)) (other-saying c (request o now k (brings item)) 3 sent (λ e. omega arith)),
+)
 
 expiry-spares : (pre : List Call) (c : Call) (k now j : ℕ) → hears c ≡ expiry now j → Spares pre c k
 unfolding saying
-expiry-spares pre c k now j sent =
-    (no-item pre c k (other-saying c (expiry now j) 6 sent (λ e. omega arith)),
-    no-empty pre c k (other-saying c (expiry now j) 2 sent (λ e. omega arith)) (other-saying c (expiry now j) 3 sent (λ e. omega arith)))
+expiry-spares pre c k now j sent = (
+  no-item pre c k (other-saying c (expiry now j) 6 sent (λ e. omega arith)),
+  no-empty pre c k (other-saying c (expiry now j) 2 sent (λ e. omega arith)) (other-saying c (expiry now j) 3 sent (λ e. omega arith)),
+)
 
 -- a call that does not act on an open upload neither completes nor empties its kind
 passed-spares :
@@ -185,9 +187,11 @@ passed-spares pre c k o n got started repeats up aside = (no-last, none)
   where
     m : Model
     m = run fresh pre
+
     -- the call acts on the upload after all
     acting : {A : Type 0} (h : Heard) → hears c ≡ h → acts k o (length got) started (answerTo pre c) h ≡ true → A
     acting h e t = no (sym (subst (λ (g : Heard). acts k o (length got) started (answerTo pre c) g ≡ false) e aside) ∙ t)
+
     no-last : (items : List Bytes) → Completes pre c k items → ⊥
     no-last items done =
         let same : runOf (done .o) (done .n) (done .got) (done .started) (done .repeats) ≡ runOf o n got started repeats = open-once (done .upload) up in
@@ -195,6 +199,7 @@ passed-spares pre c k o n got started repeats up aside = (no-last, none)
         let turn : done .item .seq ≡ length got = done .inTurn ∙ ap (λ (r : Run). length (r .taken)) same in
         acting (request (done .o) (done .now) k (brings (done .item))) (done .sent)
         (rw (station, same-self o, eq-eqb k k refl, eq-eqb (done .item .seq) (length got) turn))
+
     -- what would empty the kind is the station's own, and acts; or another's, and is denied
     count-none : (j : ℕ) (o′ : Station) (now : ℕ) → hears c ≡ request o′ now j (announces 0) → letIn (answerTo pre c) ≡ true → (t : Bool) → eqb j k ≡ t → eqb j k ≡ false
     count-none j o′ now sent in-it false t = t
@@ -202,11 +207,13 @@ passed-spares pre c k o n got started repeats up aside = (no-last, none)
       where
         sent-k : hears c ≡ request o′ now k (announces 0)
         sent-k = sent ∙ ap (λ (i : ℕ). request o′ now i (announces 0)) (eqb-true j k t)
+
         by : (u : Bool) → sameStation o′ o ≡ u → eqb j k ≡ false
         by true u = acting (request o′ now k (announces 0)) sent-k (rw (u, eq-eqb k k refl))
         by false u =
             let refusal = denies pre c k o o′ n 0 got started repeats now up (λ e. true≢false (sym (ap (λ (x : Station). sameStation x o) e ∙ same-self o) ∙ u)) sent-k in
             no (sym (ap letIn refusal) ∙ in-it)
+
     clear-none : (j : ℕ) (o′ : Station) (now : ℕ) → hears c ≡ request o′ now j clears → letIn (answerTo pre c) ≡ true → (t : Bool) → (eqb j k || eqb j everyKind) ≡ t → (eqb j k || eqb j everyKind) ≡ false
     clear-none j o′ now sent in-it false t = t
     clear-none j o′ now sent in-it true t = by (sameStation o′ o) refl
@@ -217,6 +224,7 @@ passed-spares pre c k o n got started repeats up aside = (no-last, none)
             let was = open-runs up in
             let refusal = clear-denied m (formed pre) k (was .known) (runOf o n got started repeats) (was .upload) o′ now j t u in
             no (sym (ap (λ (s : Stepped). letIn (s .answer)) (one-more pre c) ∙ ap (λ (h : Heard). letIn (act m h .answer)) sent ∙ refusal) ∙ in-it)
+
     none : (ks : List ℕ) → Empties pre c ks → among ks k ≡ false
     none ks (byCount j o′ now sent in-it) = rw (count-none j o′ now sent in-it (eqb j k) refl)
     none ks (byClear j o′ now sent small in-it) =
@@ -266,7 +274,7 @@ out-of-turn pre c k o n got started repeats now item up sent other =
     let h = request o now k (brings item) in
     record {
       answer = answer-heard pre c h sent ∙ ap (λ (s : Stepped). s .answer) stepped;
-      unchanged = after-call pre c h sent ∙ ap (λ (s : Stepped). s .model) stepped
+      unchanged = after-call pre c h sent ∙ ap (λ (s : Stepped). s .model) stepped;
     }
 
 denied-count :
@@ -286,7 +294,7 @@ second-station pre c k o o′ n n′ got started repeats now up other sent =
     let stepped = denied-count (run fresh pre) o′ now k n′ (was .known) (rw (was .upload) (apart (sameStation o′ o) refl)) in
     record {
       answer = answer-heard pre c h sent ∙ ap (λ (s : Stepped). s .answer) stepped;
-      unchanged = after-call pre c h sent ∙ ap (λ (s : Stepped). s .model) stepped
+      unchanged = after-call pre c h sent ∙ ap (λ (s : Stepped). s .model) stepped;
     }
   where
     apart : (t : Bool) → sameStation o′ o ≡ t → not (sameStation o′ o) ≡ true
@@ -309,8 +317,8 @@ message-apart pre c k j o now q sent apart notall =
     record {
       plan = plan-stands pre c k (λ items done. apart (ap kindSaid (sym sent ∙ done .sent)), none);
       upload =
-        ap (λ (m : Model). uploadOf m k) (after-call pre c (request o now j q) sent)
-        ∙ message-other (run fresh pre) (formed pre) k o now j q (ne-eqb j k apart) (λ e. ne-eqb j everyKind (notall e))
+          ap (λ (m : Model). uploadOf m k) (after-call pre c (request o now j q) sent)
+          ∙ message-other (run fresh pre) (formed pre) k o now j q (ne-eqb j k apart) (λ e. ne-eqb j everyKind (notall e));
     }
   where
     none : (ks : List ℕ) → Empties pre c ks → among ks k ≡ false
@@ -325,8 +333,8 @@ timer-apart pre c k j now sent apart =
     record {
       plan = plan-stands pre c k (expiry-spares pre c k now j sent);
       upload =
-        ap (λ (m : Model). uploadOf m k) (after-call pre c (expiry now j) sent)
-        ∙ timer-other (run fresh pre) (formed pre) k j (subst HeardKnown sent (heard-known true c)) (ne-eqb j k apart) (uploadOf (run fresh pre) j) now
+          ap (λ (m : Model). uploadOf m k) (after-call pre c (expiry now j) sent)
+          ∙ timer-other (run fresh pre) (formed pre) k j (subst HeardKnown sent (heard-known true c)) (ne-eqb j k apart) (uploadOf (run fresh pre) j) now;
     }
 
 pub done-apart : (pre : List Call) (c : Call) (k : ℕ) → hears c ≡ commandDone → Untouched pre c k
@@ -334,10 +342,11 @@ unfolding act saying
 done-apart pre c k sent =
     record {
       plan =
-        plan-stands pre c k
-        (no-item pre c k (other-saying c commandDone 6 sent (λ e. omega arith)),
-        no-empty pre c k (other-saying c commandDone 2 sent (λ e. omega arith)) (other-saying c commandDone 3 sent (λ e. omega arith)));
-      upload = ap (λ (m : Model). uploadOf m k) (after-call pre c commandDone sent)
+          plan-stands pre c k (
+            no-item pre c k (other-saying c commandDone 6 sent (λ e. omega arith)),
+            no-empty pre c k (other-saying c commandDone 2 sent (λ e. omega arith)) (other-saying c commandDone 3 sent (λ e. omega arith)),
+          );
+      upload = ap (λ (m : Model). uploadOf m k) (after-call pre c commandDone sent);
     }
 
 -- ---- reading back what was uploaded
@@ -395,10 +404,10 @@ item-answered pre c c′ k items done o now i d sent below fits =
     let cs = pre ++ (c ∷ []) in
     let known = open-runs (done .upload) .known in
     let stored : planOf (shownBy cs) k .items ≡ map itemOf (uploadedItems done) =
-      ap (λ (s : Shown). planOf s k .items) (takes-effect pre c k items done) ∙ put-plan (shownBy pre) k items (formed pre .plans) known ∙ completed-sent done in
+    ap (λ (s : Shown). planOf s k .items) (takes-effect pre c k items done) ∙ put-plan (shownBy pre) k items (formed pre .plans) known ∙ completed-sent done in
     let long : i < lengthOf (shownBy cs) k = subst (λ (n : ℕ). i < n) (sym (ap length stored ∙ length-map (uploadedItems done) itemOf)) below in
     let at : getD (planOf (shownBy cs) k .items) i [] ≡ itemOf (getD (uploadedItems done) i d) =
-      ap (λ (l : List Bytes). getD l i []) stored ∙ getD-map (uploadedItems done) i d below in
+    ap (λ (l : List Bytes). getD l i []) stored ∙ getD-map (uploadedItems done) i d below in
     answer-heard cs c′ (request o now k (asksItem i)) sent
     ∙ asked (run fresh cs) o now k i (itemOf (getD (uploadedItems done) i d)) known long at
     ∙ ap (λ (x : Item). says (itemInt o (currentField cs k i) x)) (item-reads-back (getD (uploadedItems done) i d) fits)

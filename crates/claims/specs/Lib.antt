@@ -5,4 +5,5 @@ pub mod Rules
 pub mod Demand3
 pub mod Service
 pub mod Corollaries
+pub mod Worked
 pub mod Laws

@@ -4,14 +4,23 @@ pub mod Readings
 use Prim.Native.Nat.{ℕ}
 use mathlib.Core.Path.{_≡_}
 use mathlib.Core.List.{List, [], _∷_, map}
+use lib.Ieee.{ofBits}
 use Rattle.rules.specs.Limits.{storeBytes, replyBytesMin, flight, fence, rally}
-use Rattle.rules.specs.Payload.{Bytes}
-use Rattle.rules.specs.Layouts.{setCurrentId, requestListId, countId, clearAllId, ackId, requestIntId, itemIntId}
-use Rattle.rules.specs.Messages.{Station, station, Item, Message, setCurrent, requestList, count, clearAll, ack, requestInt, itemInt, encode}
-use Rattle.rules.specs.Model.{Model, Shown, Upload}
-use Rattle.rules.specs.NextCommand.{Command}
-use Rattle.rules.specs.Calls.{Call, message, timer, done}
-use Rattle.rules.specs.Step.{Answer, step, run}
+use Rattle.rules.specs.Payload.{Bytes, numberAt, bytesOf, significant, trim}
+use Rattle.rules.specs.Layouts.{setCurrentId, requestListId, countId, clearAllId, ackId, requestIntId, itemIntId, layoutOf, values, pack}
+use Rattle.rules.specs.Messages.{Station, station, Item, Message, setCurrent, requestList, count, clearAll, ack, requestInt, itemInt, encode, messageOf, decode, itemOf, itemIn}
+use Rattle.rules.specs.Model.{Model, Shown, Upload, nextNumber, shownNumber, elapsed, wholeOk, isOthers, isOwn, withPlan, put, emptied, empty, choose, uploadInRange, inRange}
+use Rattle.rules.specs.NextCommand.{Command, commandOf, passedOver, runsAfter, meets, settle, search, next, reach, advance}
+use Rattle.rules.specs.Calls.{Call, message, timer, done, forUs, heardMessage, heard}
+use Rattle.rules.specs.Values.{signed, finite, atLeastZero, aboveZero, zeroTo, wholeOf, wholeFrom, wholeNumber}
+use Rattle.rules.specs.Items.{targetIn, paramOk, frameOk, jumpsAmong, placeFault, faultIn, faultAmong, fault}
+use Rattle.rules.specs.Fence.{runWith, readItem, readItems, returnPoints, fenceOk}
+use Rattle.rules.specs.Step.{Answer, step, run, onCount, takes, onItem, onAck, onClear, onList, onRequest, onSetCurrent, onKnown, kindOk, onMessage, onTimer, act, answers}
+
+-- what a proof by computation unfolds: the rules, whole
+unfoldable pub computing : Unit {0}
+unfolding numberAt bytesOf significant trim layoutOf values pack messageOf encode decode itemOf itemIn signed finite atLeastZero aboveZero zeroTo wholeOf wholeFrom wholeNumber targetIn paramOk frameOk jumpsAmong placeFault faultIn faultAmong fault runWith readItem readItems returnPoints fenceOk nextNumber shownNumber elapsed wholeOk isOthers isOwn withPlan put emptied empty choose uploadInRange inRange commandOf passedOver runsAfter meets settle search next reach advance forUs heardMessage heard onCount takes onItem onAck onClear onList onRequest onSetCurrent onKnown kindOk onMessage onTimer act step run answers ofBits
+computing = tt
 
 pub data Value : Type 0 where
   number : ℕ → Value

@@ -1,23 +1,19 @@
 -- Cases that guard the rules against a misreading: places of document 01 that are easily read wrong, every closing event of an upload,
 -- and one upload among other traffic. One table, and one statement: every case holds.
 use Prim.Native.Nat.{ℕ, _+_, _^_}
-use mathlib.Core.Path.{_≡_, refl}
-use mathlib.Core.List.{List, [], _∷_, _++_, map}
-use mathlib.Core.Bool.{Bool, true, false}
-use lib.ListN.{length, replicate}
-use lib.Ieee.{ofBits}
+use mathlib.Core.Path.{refl}
+use mathlib.Core.List.{List, [], _∷_, map}
+use mathlib.Core.Bool.{true, false}
+use lib.ListN.{replicate}
 use Rattle.rules.specs.Limits.{flight, fence, rally, everyKind, storeBytes, replyBytesMin}
-use Rattle.rules.specs.Payload.{Bytes, numberAt, bytesOf, significant, trim}
-use Rattle.rules.specs.Layouts.{layoutOf, values, pack, currentId, countId, clearAllId, ackId, requestIntId, statustextId}
-use Rattle.rules.specs.Messages.{Station, station, Item, count, clearAll, ack, current, requestInt, itemInt, messageOf, encode, decode, itemOf, itemIn}
-use Rattle.rules.specs.Values.{signed, finite, atLeastZero, aboveZero, zeroTo, wholeOf, wholeFrom, wholeNumber}
-use Rattle.rules.specs.Items.{targetIn, paramOk, frameOk, jumpsAmong, placeFault, faultIn, faultAmong, fault}
-use Rattle.rules.specs.Fence.{runWith, readItem, readItems, returnPoints, fenceOk}
-use Rattle.rules.specs.Model.{Model, Shown, Plan, Run, Upload, idle, running, fresh, uploadOf, nextNumber, shownNumber, elapsed, wholeOk, isOthers, isOwn, withPlan, put, emptied, empty, choose, uploadInRange, inRange}
-use Rattle.rules.specs.NextCommand.{Command, fly, wait, servo, finished, stuck, commandOf, passedOver, runsAfter, meets, settle, search, next, reach, advance}
-use Rattle.rules.specs.Calls.{Call, message, timer, done, forUs, heardMessage, heard}
-use Rattle.rules.specs.Step.{Answer, refused, silent, says, orders, refusalText, onCount, takes, onItem, onAck, onClear, onList, onRequest, onSetCurrent, onKnown, kindOk, onMessage, onTimer, act, step, run, answers, replyBytes, commandIn}
-use Rattle.rules.specs.Cases.{Case, number, bytes, answer, commands, shown, upload, _is_, Hold, vehicle, tablet, neighbour, sends, sendsCount, sendsItem, sendsAck, sendsClear, asksForList, asksForItem, setsCurrent, ticks, finishes, after, f1, f2, f3, f4, fNaN, fMinusZero, fMinusOne, itemAs, waypoint, takeoff, land, jumpTo, vertex, circle, rallyPoint}
+use Rattle.rules.specs.Payload.{Bytes, trim}
+use Rattle.rules.specs.Layouts.{currentId, countId, clearAllId, ackId, requestIntId, statustextId}
+use Rattle.rules.specs.Messages.{station, Item, count, ack, current, requestInt, itemInt, itemOf}
+use Rattle.rules.specs.Items.{fault}
+use Rattle.rules.specs.Model.{Model, Shown, Plan, Upload, idle, running, fresh, uploadOf, elapsed, emptied, empty}
+use Rattle.rules.specs.Calls.{Call, message, timer, done}
+use Rattle.rules.specs.Step.{Answer, refused, silent, says, refusalText, takes, run, replyBytes}
+use Rattle.rules.specs.Cases.{computing, Case, number, bytes, answer, shown, upload, _is_, Hold, vehicle, tablet, neighbour, sends, sendsCount, sendsItem, sendsAck, sendsClear, asksForList, asksForItem, setsCurrent, ticks, finishes, after, f2, f3, f4, fNaN, fMinusZero, fMinusOne, itemAs, waypoint, jumpTo, vertex, circle}
 
 -- ---- what the cases start from
 
@@ -215,5 +211,5 @@ readings =
 
 -- Every case holds.
 pub readings-hold : Hold readings
-unfolding numberAt bytesOf significant trim layoutOf values pack messageOf encode decode itemOf itemIn signed finite atLeastZero aboveZero zeroTo wholeOf wholeFrom wholeNumber targetIn paramOk frameOk jumpsAmong placeFault faultIn faultAmong fault runWith readItem readItems returnPoints fenceOk nextNumber shownNumber elapsed wholeOk isOthers isOwn withPlan put emptied empty choose uploadInRange inRange commandOf passedOver runsAfter meets settle search next reach advance forUs heardMessage heard onCount takes onItem onAck onClear onList onRequest onSetCurrent onKnown kindOk onMessage onTimer act step run answers ofBits
+unfolding computing
 readings-hold = refl

@@ -1,21 +1,15 @@
 -- The values at the edges that document 01 marks with *, as one table, and one statement: every case holds.
-use Prim.Native.Nat.{ℕ, _+_}
-use mathlib.Core.Path.{_≡_, refl}
-use mathlib.Core.List.{List, [], _∷_, _++_, map}
-use lib.ListN.{length}
-use lib.Ieee.{ofBits}
+use Prim.Native.Nat.{ℕ}
+use mathlib.Core.Path.{refl}
+use mathlib.Core.List.{List, [], _∷_, map}
 use Rattle.rules.specs.Limits.{flight, fence, rally}
-use Rattle.rules.specs.Payload.{numberAt, bytesOf, significant, trim}
-use Rattle.rules.specs.Layouts.{layoutOf, values, pack, requestListId}
-use Rattle.rules.specs.Messages.{Station, station, Item, count, ack, requestInt, requestList, itemInt, messageOf, encode, decode, itemOf, itemIn}
-use Rattle.rules.specs.Values.{signed, finite, atLeastZero, aboveZero, zeroTo, wholeOf, wholeFrom, wholeNumber}
-use Rattle.rules.specs.Items.{targetIn, paramOk, frameOk, jumpsAmong, placeFault, faultIn, faultAmong, fault}
-use Rattle.rules.specs.Fence.{runWith, readItem, readItems, returnPoints, fenceOk}
-use Rattle.rules.specs.Model.{Model, Plan, idle, running, fresh, nextNumber, shownNumber, elapsed, wholeOk, isOthers, isOwn, withPlan, put, emptied, empty, choose, uploadInRange, inRange}
-use Rattle.rules.specs.NextCommand.{Command, fly, finished, stuck, commandOf, passedOver, runsAfter, meets, settle, search, next, reach, advance}
-use Rattle.rules.specs.Calls.{Call, forUs, heardMessage, heard}
-use Rattle.rules.specs.Step.{Answer, says, silent, onCount, takes, onItem, onAck, onClear, onList, onRequest, onSetCurrent, onKnown, kindOk, onMessage, onTimer, act, step, run, answers, replyBytes, commandIn}
-use Rattle.rules.specs.Cases.{Case, number, bytes, reads, answer, commands, _is_, Hold, vehicle, tablet, sends, sendsCount, sendsItem, sendsClear, asksForItem, ticks, finishes, after, f1, f2, fNaN, fMinusOne, itemAs, waypoint, takeoff, land, jumpTo, circle}
+use Rattle.rules.specs.Layouts.{requestListId}
+use Rattle.rules.specs.Messages.{station, Item, count, ack, requestInt, requestList, itemInt, decode, itemOf}
+use Rattle.rules.specs.Model.{Model, running, fresh, elapsed}
+use Rattle.rules.specs.NextCommand.{Command, fly, finished, stuck}
+use Rattle.rules.specs.Calls.{Call}
+use Rattle.rules.specs.Step.{says, silent, answers, replyBytes, commandIn}
+use Rattle.rules.specs.Cases.{computing, Case, number, bytes, reads, answer, commands, _is_, Hold, vehicle, tablet, sends, sendsCount, sendsItem, sendsClear, asksForItem, ticks, finishes, after, f1, f2, fNaN, fMinusOne, itemAs, waypoint, takeoff, land, jumpTo, circle}
 
 -- ---- what the cases start from
 
@@ -105,5 +99,5 @@ starred =
 
 -- Every starred case holds.
 pub starred-hold : Hold starred
-unfolding numberAt bytesOf significant trim layoutOf values pack messageOf encode decode itemOf itemIn signed finite atLeastZero aboveZero zeroTo wholeOf wholeFrom wholeNumber targetIn paramOk frameOk jumpsAmong placeFault faultIn faultAmong fault runWith readItem readItems returnPoints fenceOk nextNumber shownNumber elapsed wholeOk isOthers isOwn withPlan put emptied empty choose uploadInRange inRange commandOf passedOver runsAfter meets settle search next reach advance forUs heardMessage heard onCount takes onItem onAck onClear onList onRequest onSetCurrent onKnown kindOk onMessage onTimer act step run answers ofBits
+unfolding computing
 starred-hold = refl
