@@ -1,3 +1,3 @@
 -- The engine's step over the state's records and the store, mirroring the code; crate `refine` shows that it is the rules' step.
-pub mod Turns
+pub mod Judging
 pub mod Whole

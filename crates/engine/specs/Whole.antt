@@ -6,21 +6,18 @@ use lib.ListN.{getD, set}
 use lib.Dec.{eqb, ltb}
 use Rattle.rules.specs.Limits.{flight, fence, rally, everyKind, kinds, sizeOf, accepted, unsupported, invalidSequence, denied}
 use Rattle.rules.specs.Payload.{Bytes}
-use Rattle.rules.specs.Messages.{Station, station, Item, Message, current, count, ack, requestInt, itemInt, itemIn}
+use Rattle.rules.specs.Messages.{Station, Item, Message, current, count, ack, requestInt, itemInt, itemIn}
 use Rattle.rules.specs.Model.{noCounts}
 use Rattle.rules.specs.Calls.{Request, chooses, asksList, announces, clears, acknowledges, asksItem, brings, Heard, refuses, request, expiry, commandDone}
 use Rattle.rules.specs.Step.{Answer, refused, silent, says, covered, kindOk, refusalText}
 use Rattle.plan.specs.declared.State.{State}
 use Rattle.plan.specs.declared.Plan.{Plan}
-use Rattle.plan.specs.declared.Run.{Run}
-use Rattle.plan.specs.declared.Upload.{Upload}
-use Rattle.plan.specs.declared.Upload.the-variants.{Idle, Running}
 use Rattle.plan.specs.Places.{itemAt}
 use Rattle.plan.specs.View.{planOf}
-use Rattle.engine.specs.declared.Say.{Say}
-use Rattle.engine.specs.declared.Say.the-variants.{Silent, Ack, Ask}
-use Rattle.engine.specs.declared.Turned.{Turned}
-use Rattle.engine.specs.Turns.{Took, emptied, renews, countTurned, ackTurned, timerTurned, itemTook, othersUpload}
+use Rattle.upload.specs.declared.Say.{Say}
+use Rattle.upload.specs.declared.Say.the-variants.{Silent, Ack, Ask}
+use Rattle.upload.specs.declared.Turned.{Turned}
+use Rattle.upload.specs.Turns.{Took, emptied, renews, countTurned, ackTurned, timerTurned, itemTook, othersUpload, stationOf}
 
 -- the state, the store and the answer after a call
 pub record Done : Type 0 where
@@ -107,11 +104,6 @@ knownDone st s from now kind (brings item) = itemDone st kind from (itemTook s k
 
 unfoldable pub messageDone : State → Bytes → Station → (now kind : ℕ) → Request → Done
 messageDone st s from now kind r = cond (kindOk kind r) (knownDone st s from now kind r) (gives st s (says (ack from unsupported kind 0)))
-
--- a timer call's reply goes to the upload's station
-abbrev pub stationOf : Upload → Station
-stationOf Idle = station 0 0
-stationOf (Running r) = station (r .system) (r .component)
 
 unfoldable pub timerDone : State → Bytes → (now kind : ℕ) → Done
 timerDone st s now kind = turns st s kind (stationOf (planOf st kind .upload)) (timerTurned (planOf st kind .upload) (planOf st kind) now)

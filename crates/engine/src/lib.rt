@@ -1,16 +1,3 @@
-// The steps of one kind's upload, and what is said back. Everything here speaks of one plan at a time; the kind is data.
-use plan::Plan;
-
-// What a handler says to a station about its kind: nothing, an ACK with result and plan number, or a request of an item.
-pub enum Say {
-    Silent,
-    Ack(u8, u32),
-    Ask(u16),
-}
-
-// A plan after a message or a timer call, whether it was replaced or emptied, and what to say.
-pub struct Turned {
-    pub plan: Plan,
-    pub renewed: bool,
-    pub say: Say,
-}
+// What each message does to the state and the store: an item's turn, the state after a turn, clears and choices.
+pub mod items;
+pub mod states;

@@ -1,9 +1,11 @@
 // The ranges of outcome 15, for every state.
 ghost use mathlib.Core.Path.{_≡_};
+ghost use lib.ListN.{length};
+ghost use Rattle.rules.specs.Limits.{kinds};
 ghost use Rattle.rules.specs.Payload.{Bytes};
 ghost use Rattle.rules.specs.Model.{inRange};
 ghost use Rattle.plan.specs.View.{view};
-ghost use Rattle.plan.specs.Ranges.{runRanged, uploadRanged, planRanged, countsRanged};
+ghost use Rattle.plan.specs.Ranges.{runRanged, uploadRanged, planRanged, plansRanged, countsRanged};
 use super::FENCE;
 use super::FLIGHT;
 use super::Plan;
@@ -54,17 +56,25 @@ fn counts_ranged(counts: [u16; 15]) -> bool
     true
 }
 
-// Whether every number of a state is in its range, whatever the store holds.
-pub fn ranged(state: State) -> bool
-    ensures { λ r. ⌜ ((store : Bytes) → r ≡ inRange (view state store)) ⌝ }
+fn plans_ranged(plans: [Plan; 3]) -> bool
+    ensures { λ r. ⌜ (r ≡ plansRanged plans) × (length plans ≡ length kinds) ⌝ }
 {
-    let flight = state.plans[0];
-    let fence = state.plans[1];
-    let rally = state.plans[2];
-    let counts = state.counts;
+    let flight = plans[0];
+    let fence = plans[1];
+    let rally = plans[2];
     plan_ranged(flight, size_of(FLIGHT))
         & plan_ranged(fence, size_of(FENCE))
         & plan_ranged(rally, size_of(RALLY))
+}
+
+// Whether every number of a state is in its range, whatever the store holds. A state has a plan of each kind.
+pub fn ranged(state: State) -> bool
+    ensures { λ r. ⌜ ((store : Bytes) → r ≡ inRange (view state store)) × (length (state .plans) ≡ length kinds) ⌝ }
+{
+    let plans = state.plans;
+    let flight = plans[0];
+    let counts = state.counts;
+    plans_ranged(plans)
         & ((state.current < flight.len) | (state.current == 0))
         & counts_ranged(counts)
 }

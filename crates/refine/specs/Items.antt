@@ -30,10 +30,10 @@ use Rattle.plan.specs.declared.Upload.the-variants.{Idle, Running}
 use Rattle.plan.specs.Places.{itemsIn, length-items}
 use Rattle.plan.specs.Writes.{putAt, Apart, otherHalf, otherKind, beyond, items-apart, items-more}
 use Rattle.plan.specs.View.{planOf, planIn, runIn, uploadIn, view}
-use Rattle.engine.specs.declared.Say.{Say}
-use Rattle.engine.specs.declared.Say.the-variants.{Silent, Ack, Ask}
-use Rattle.engine.specs.declared.Turned.{Turned}
-use Rattle.engine.specs.Turns.{withUpload, ended, replaced, tookOne, isFrom, keeps, renews, Took, took, stored, takesItem, itemVerdict, itemTook}
+use Rattle.upload.specs.declared.Say.{Say}
+use Rattle.upload.specs.declared.Say.the-variants.{Silent, Ack, Ask}
+use Rattle.upload.specs.declared.Turned.{Turned}
+use Rattle.upload.specs.Turns.{withUpload, ended, replaced, tookOne, isFrom, keeps, renews, Took, took, stored, takesItem, itemVerdict, itemTook}
 use Rattle.engine.specs.Whole.{Done, answerOf, turnedState, turns, itemDone}
 use Rattle.refine.specs.Views.{plan-shown, upload-shown, length-shown, view-upload, view-renewed}
 use Rattle.refine.specs.Turned.{Agree, Agrees, kept, ends, runs}

@@ -22,9 +22,9 @@ use Rattle.plan.specs.declared.Upload.{Upload}
 use Rattle.plan.specs.declared.Upload.the-variants.{Idle, Running}
 use Rattle.plan.specs.Places.{itemsIn, itemAt, length-items, items-at}
 use Rattle.plan.specs.View.{emptyPlan, planOf, planIn, uploadIn, view}
-use Rattle.engine.specs.declared.Say.the-variants.{Silent, Ack, Ask}
-use Rattle.engine.specs.declared.Turned.{Turned}
-use Rattle.engine.specs.Turns.{emptied, renews, othersUpload, ackTurned, ownUpload, keeps, ended}
+use Rattle.upload.specs.declared.Say.the-variants.{Silent, Ack, Ask}
+use Rattle.upload.specs.declared.Turned.{Turned}
+use Rattle.upload.specs.Turns.{emptied, renews, othersUpload, ackTurned, ownUpload, keeps, ended}
 use Rattle.engine.specs.Whole.{Done, answerOf, gives, turnedState, turns, clearedState, othersAmong, clearDone, numberShown, listDone, requestDone, chosenState, chooseDone, knownDone, messageDone}
 use Rattle.refine.specs.Views.{plan-shown, upload-shown, length-shown, same-state, view-renewed}
 use Rattle.refine.specs.Turned.{Agree, others-shown, own-shown, empties, count-agrees, ack-agrees}

@@ -30,9 +30,9 @@ use Rattle.plan.specs.Part.{length-put, getD-put-before, getD-put-after}
 use Rattle.plan.specs.Places.{itemsIn, offsetOf, offset-within}
 use Rattle.plan.specs.Writes.{putAt, length-stays}
 use Rattle.plan.specs.View.{emptyPlan, planOf, view}
-use Rattle.engine.specs.declared.Say.the-variants.{Silent}
-use Rattle.engine.specs.declared.Turned.{Turned}
-use Rattle.engine.specs.Turns.{ended, emptied, keeps, renews, isFrom, othersUpload, ownUpload, countTurned, ackTurned, timerTurned, Took, takesItem, itemVerdict, itemTook, stored}
+use Rattle.upload.specs.declared.Say.the-variants.{Silent}
+use Rattle.upload.specs.declared.Turned.{Turned}
+use Rattle.upload.specs.Turns.{ended, emptied, keeps, renews, isFrom, othersUpload, ownUpload, countTurned, ackTurned, timerTurned, Took, takesItem, itemVerdict, itemTook, stored}
 use Rattle.engine.specs.Whole.{Done, gives, turnedState, turns, clearedState, othersAmong, clearDone, listDone, requestDone, chooseDone, knownDone, messageDone, timerDone}
 use Rattle.refine.specs.Views.{plan-shown}
 use Rattle.refine.specs.Turned.{Agree, timer-agrees}

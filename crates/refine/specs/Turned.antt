@@ -20,11 +20,11 @@ use Rattle.plan.specs.declared.Upload.{Upload}
 use Rattle.plan.specs.declared.Upload.the-variants.{Idle, Running}
 use Rattle.plan.specs.Places.{itemsIn, length-items}
 use Rattle.plan.specs.View.{planOf, planIn, runIn, uploadIn, view}
-use Rattle.engine.specs.declared.Say.{Say}
-use Rattle.engine.specs.declared.Say.the-variants.{Silent, Ack, Ask}
-use Rattle.engine.specs.declared.Turned.{Turned}
-use Rattle.engine.specs.Turns.{withUpload, ended, emptied, started, askedAgain, isFrom, othersUpload, ownUpload, keeps, renews, countTurned, ackTurned, timerTurned}
-use Rattle.engine.specs.Whole.{Done, answerOf, turnedState, turns, stationOf, timerDone}
+use Rattle.upload.specs.declared.Say.{Say}
+use Rattle.upload.specs.declared.Say.the-variants.{Silent, Ack, Ask}
+use Rattle.upload.specs.declared.Turned.{Turned}
+use Rattle.upload.specs.Turns.{stationOf, withUpload, ended, emptied, started, askedAgain, isFrom, othersUpload, ownUpload, keeps, renews, countTurned, ackTurned, timerTurned}
+use Rattle.engine.specs.Whole.{Done, answerOf, turnedState, turns, timerDone}
 use Rattle.refine.specs.Views.{plan-shown, upload-shown, same-state, view-upload, view-renewed}
 
 -- the engine's step shows the rules' model, and gives the rules' answer

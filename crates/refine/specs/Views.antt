@@ -23,9 +23,9 @@ use Rattle.plan.specs.declared.Upload.{Upload}
 use Rattle.plan.specs.declared.Upload.the-variants.{Idle, Running}
 use Rattle.plan.specs.Places.{itemsIn, length-items}
 use Rattle.plan.specs.View.{emptyPlan, planOf, planIn, runIn, uploadIn, view}
-use Rattle.engine.specs.declared.Say.{Say}
-use Rattle.engine.specs.declared.Turned.{Turned}
-use Rattle.engine.specs.Turns.{withUpload, keeps, renews}
+use Rattle.upload.specs.declared.Say.{Say}
+use Rattle.upload.specs.declared.Turned.{Turned}
+use Rattle.upload.specs.Turns.{withUpload, keeps, renews}
 use Rattle.engine.specs.Whole.{turnedState}
 
 known-below : (k : ℕ) → isKnown k ≡ true → k < length kinds

@@ -1,11 +1,10 @@
 -- What each message and timer call makes of one kind's plan, over the state's own records.
 use Prim.Native.Nat.{ℕ, _+_}
-use mathlib.Core.List.{List, [], _∷_}
 use mathlib.Core.Bool.{Bool, true, false, not, cond, _&&_}
 use lib.Dec.{eqb, ltb}
-use Rattle.rules.specs.Limits.{sizeOf, maxRepeats, expiryMs, accepted, noSpace, invalid, invalidSequence, denied, cancelled}
+use Rattle.rules.specs.Limits.{maxRepeats, expiryMs, accepted, noSpace, invalid, invalidSequence, denied, cancelled}
 use Rattle.rules.specs.Payload.{Bytes}
-use Rattle.rules.specs.Messages.{Station, Item, itemOf}
+use Rattle.rules.specs.Messages.{Station, station, Item, itemOf}
 use Rattle.rules.specs.Items.{jumpsAmong, fault}
 use Rattle.rules.specs.Model.{nextNumber, elapsed, wholeOk}
 use Rattle.plan.specs.declared.Plan.{Plan}
@@ -14,9 +13,9 @@ use Rattle.plan.specs.declared.Upload.{Upload}
 use Rattle.plan.specs.declared.Upload.the-variants.{Idle, Running}
 use Rattle.plan.specs.Places.{itemsIn}
 use Rattle.plan.specs.Writes.{putAt}
-use Rattle.engine.specs.declared.Say.{Say}
-use Rattle.engine.specs.declared.Say.the-variants.{Silent, Ack, Ask}
-use Rattle.engine.specs.declared.Turned.{Turned}
+use Rattle.upload.specs.declared.Say.{Say}
+use Rattle.upload.specs.declared.Say.the-variants.{Silent, Ack, Ask}
+use Rattle.upload.specs.declared.Turned.{Turned}
 
 -- ---- one definition for each update of a plan
 
@@ -54,6 +53,11 @@ othersUpload from (Running r) = not (isFrom from r)
 unfoldable pub ownUpload : Station → Upload → Bool
 ownUpload from Idle = false
 ownUpload from (Running r) = isFrom from r
+
+-- a timer call's reply goes to the upload's station
+abbrev pub stationOf : Upload → Station
+stationOf Idle = station 0 0
+stationOf (Running r) = station (r .system) (r .component)
 
 -- ---- the handlers
 

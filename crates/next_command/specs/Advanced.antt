@@ -1,0 +1,61 @@
+-- What a "command done" call promises: the rules' answer, and the state that shows what the rules' advance shows.
+use Prim.Native.Nat.{ℕ}
+use mathlib.Core.Path.{_≡_, refl, ap}
+use mathlib.Core.List.{List}
+use mathlib.Core.Bool.{Bool, true, false, cond}
+use Rattle.rules.specs.Payload.{Bytes}
+use Rattle.rules.specs.Model.{Model}
+use Rattle.rules.specs.NextCommand.{answerOf, reach, found, nowhere}
+use Rattle.rules.specs.NextCommand as rules
+use Rattle.plan.specs.declared.State.{State}
+use Rattle.plan.specs.View.{view}
+use Rattle.next_command.specs.declared.Advance.{Advance}
+use Rattle.next_command.specs.declared.find.Found.{Found}
+use Rattle.next_command.specs.Orders.{orderOf}
+use Rattle.next_command.specs.Finding.{foundOf}
+
+-- the model after a "command done" call
+abbrev pub advanced : Model → Model
+advanced m = record { shown = rules.advance (m .shown); uploads = m .uploads }
+
+pub record Advanced (st : State) (store : Bytes) (r : Advance) : Type 0 where
+  pub answer : orderOf (r .command) ≡ answerOf (rules.next (view st store .shown))
+  pub shown : view (r .state) store ≡ advanced (view st store)
+  pub plans : r .state .plans ≡ st .plans
+
+-- "The first item that is no jump becomes current and begun"; otherwise the state stays
+unfoldable pub reachedAs : State → Found → Advance
+reachedAs st f =
+    record {
+      state = cond (f .stands) (record { plans = st .plans; current = f .n; begun = true; counts = f .counts }) st;
+      command = f .command;
+    }
+
+-- the state with another place and counts, or as it was
+abbrev reachedState : State → (stands : Bool) (n : ℕ) (counts : List ℕ) → State
+reachedState st stands n counts = cond stands (record { plans = st .plans; current = n; begun = true; counts = counts }) st
+
+module _ (st : State) (store : Bytes) (n : ℕ) (counts : List ℕ) (c : rules.Command) where
+  shows : (stands : Bool) → cond stands (found n counts c) (nowhere c) ≡ rules.next (view st store .shown)
+      → view (reachedState st stands n counts) store ≡ advanced (view st store)
+  unfolding view rules.advance reach
+  shows true e = ap (λ (f : rules.Found). record { shown = reach f (view st store .shown); uploads = view st store .uploads }) e
+  shows false e = ap (λ (f : rules.Found). record { shown = reach f (view st store .shown); uploads = view st store .uploads }) e
+
+  answers : (stands : Bool) → cond stands (found n counts c) (nowhere c) ≡ rules.next (view st store .shown) → c ≡ answerOf (rules.next (view st store .shown))
+  answers true e = ap answerOf e
+  answers false e = ap answerOf e
+
+  same-plans : (stands : Bool) → reachedState st stands n counts .plans ≡ st .plans
+  same-plans true = refl
+  same-plans false = refl
+
+pub reaches : (st : State) (store : Bytes) (f : Found) → foundOf f ≡ rules.next (view st store .shown) → Advanced st store (reachedAs st f)
+unfolding foundOf reachedAs
+reaches st store f e =
+    let c = orderOf (f .command) in
+    record {
+      answer = answers st store (f .n) (f .counts) c (f .stands) e;
+      shown = shows st store (f .n) (f .counts) c (f .stands) e;
+      plans = same-plans st store (f .n) (f .counts) c (f .stands);
+    }

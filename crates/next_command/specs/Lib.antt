@@ -1,0 +1,7 @@
+-- What the contracts of this crate cite besides the rules.
+pub mod PlanItems
+pub mod Orders
+pub mod Valid
+pub mod Meeting
+pub mod Finding
+pub mod Advanced

@@ -1,0 +1,84 @@
+// Following jumps: at most 64 in one search.
+use crate::Command;
+use crate::meet;
+use crate::meet::Met;
+ghost use mathlib.Core.Path.{_≡_};
+ghost use mathlib.Core.Bool.{true, cond};
+ghost use Prim.Native.Nat.{_+_, _≤_, _<_};
+ghost use lib.ListN.{length, getD, set};
+ghost use Rattle.rules.specs.Limits.{flight, sizeOf, storeBytes, maxFollowed, maxRuns, maxJumps};
+ghost use Rattle.rules.specs.NextCommand as rules;
+ghost use Rattle.plan.specs.Places.{itemsIn};
+ghost use Rattle.next_command.specs.Finding.{foundOf, settledAs};
+
+const MAX_FOLLOWED: u16 = 64;
+
+// What a search finds: the answer and, where it stands at an item, that item and the counts.
+pub struct Found {
+    pub stands: bool,
+    pub n: u16,
+    pub counts: [u16; 15],
+    pub command: Command,
+}
+
+// Where no further jump may be followed.
+fn settled(met: Met, counts: [u16; 15]) -> Found
+    ensures { λ r. ⌜ foundOf r ≡ settledAs met counts ⌝ }
+{
+    match met {
+        Met::Ends(command) => Found {
+            stands: false,
+            n: 0,
+            counts,
+            command,
+        },
+        Met::Stands(n, command) => Found {
+            stands: true,
+            n,
+            counts,
+            command,
+        },
+        Met::Follows(_, _, _) => Found {
+            stands: false,
+            n: 0,
+            counts,
+            command: Command::Stuck,
+        },
+    }
+}
+
+// The counts after jump j is followed.
+fn counted(counts: [u16; 15], j: u16, up: bool) -> [u16; 15]
+    requires { ⌜ j < maxJumps ⌝ }
+    requires { ⌜ (up ≡ true → getD counts j 0 < maxRuns) ⌝ }
+    ensures { λ r. ⌜ r ≡ set counts j (cond up (getD counts j 0 + 1) (getD counts j 0)) ⌝ }
+{
+    let mut after = counts;
+    if up {
+        let at = j as usize;
+        after[at] = after[at] + 1;
+        return after;
+    }
+    after
+}
+
+// The search from item n.
+pub fn find(store: &[u8], half: bool, len: u16, counts: [u16; 15], from: u16) -> Found
+    requires { ⌜ (storeBytes ≤ length (now store)) × (len ≤ sizeOf flight) × (from ≤ sizeOf flight) ⌝ }
+    ensures { λ r. ⌜ foundOf r ≡ rules.search maxFollowed (itemsIn (now (store .entry)) half flight len) counts from ⌝ }
+{
+    let mut runs = counts;
+    let mut n = from;
+    let mut left = MAX_FOLLOWED;
+    while 0 < left {
+        let met = meet::meet(store, half, len, runs, n);
+        let Met::Follows(j, target, up) = met else {
+            return settled(met, runs);
+        };
+        let after = counted(runs, j, up);
+        runs = after;
+        n = target;
+        left -= 1;
+    }
+    settled(meet::meet(store, half, len, runs, n), runs)
+}

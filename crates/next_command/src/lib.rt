@@ -1,0 +1,77 @@
+// The next command: what a "command done" call answers, and the state after it. Looking at the items is in meet, following jumps in find.
+pub mod find;
+pub mod meet;
+
+use find::Found;
+use plan::State;
+ghost use mathlib.Core.Path.{_≡_};
+ghost use mathlib.Core.Bool.{true, cond};
+ghost use Prim.Native.Nat.{_+_, _≤_, _<_};
+ghost use lib.ListN.{length};
+ghost use Rattle.rules.specs.Limits.{storeBytes};
+ghost use Rattle.rules.specs.Model.{inRange};
+ghost use Rattle.plan.specs.View.{view};
+ghost use Rattle.next_command.specs.Advanced.{Advanced, reachedAs};
+
+// The answer, with the item's number: its seconds, metres, degrees or speed, or a servo's channel and pulse.
+pub enum Command {
+    Fly(u16),
+    Wait(u16, f32),
+    Near(u16, f32),
+    Turn(u16, f32),
+    Speed(u16, f32),
+    Servo(u16, u16, u16),
+    Finished,
+    Stuck,
+}
+
+// The answer beside the new state.
+pub struct Advance {
+    pub state: State,
+    pub command: Command,
+}
+
+// The item at which the search begins.
+fn start(current: u16, begun: bool) -> u16
+    requires { ⌜ current < 256 ⌝ }
+    ensures { λ r. ⌜ (r ≡ cond begun (current + 1) current) × (r ≤ 256) ⌝ }
+{
+    if begun {
+        return current + 1;
+    }
+    current
+}
+
+// An item that was found becomes current and begun, with the counts of the search; otherwise nothing changes.
+fn reached(state: State, found: Found) -> Advance
+    ensures { λ r. ⌜ r ≡ reachedAs state found ⌝ }
+{
+    let command = found.command;
+    if !found.stands {
+        return Advance { state, command };
+    }
+    let plans = state.plans;
+    let counts = found.counts;
+    let state = State {
+        plans,
+        current: found.n,
+        begun: true,
+        counts,
+    };
+    Advance { state, command }
+}
+
+// What a "command done" call does, in a state whose numbers are in their ranges.
+pub fn next(state: State, store: &[u8]) -> Advance
+    requires { ⌜ storeBytes ≤ length (now store) ⌝ }
+    requires { ⌜ inRange (view state (now store)) ≡ true ⌝ }
+    ensures { λ r. ⌜ Advanced state (now (store .entry)) r ⌝ }
+{
+    let flight = state.plans[0];
+    let counts = state.counts;
+    let from = start(state.current, state.begun);
+    reached(
+        state,
+        find::find(store, flight.half, flight.len, counts, from),
+    )
+}

@@ -1,0 +1,53 @@
+-- What a message asks by its id: which kinds it may have, and which id is left where the others are excluded. Both go down the
+-- rules' chain of ids.
+use Prim.Native.Nat.{ℕ, _≤_}
+use mathlib.Core.Path.{_≡_, refl, sym, _∙_}
+use mathlib.Core.Bool.{Bool, true, false, true≢false}
+use native.Mathlib.Omega.{arith}
+use lib.Dec.{eqb}
+use borrow.Author.Tests.{eqb-true, leb-true}
+use Rattle.rules.specs.Limits.{rally}
+use Rattle.rules.specs.Payload.{Bytes}
+use Rattle.rules.specs.Layouts.{setCurrentId, currentId, requestListId, countId, clearAllId, ackId, requestIntId, itemIntId, statustextId}
+use Rattle.rules.specs.Messages.{Message, messageOf, decode}
+use Rattle.rules.specs.Laws.Tests.{either}
+use Rattle.rules.specs.Calls.{isKnown}
+use Rattle.rules.specs.Step.{kindOk}
+use Rattle.wire.specs.Table.{isRead}
+use Rattle.refusal.specs.Refusals.{requestOf}
+
+-- every message but CLEAR_ALL and ACK may have the kinds up to the last
+pub kind-known : (id kind : ℕ) (p : Bytes) → (id ≡ clearAllId → ⊥) → (id ≡ ackId → ⊥) → isKnown kind ≡ kindOk kind (requestOf (decode id p))
+unfolding decode messageOf kindOk
+kind-known id kind p n45 n47 =
+    either P (eqb id setCurrentId) (λ e. refl) (λ e.
+    either P (eqb id currentId) (λ e. refl) (λ e.
+    either P (eqb id requestListId) (λ e. refl) (λ e.
+    either P (eqb id countId) (λ e. refl) (λ e.
+    either P (eqb id clearAllId) (λ e. absurd (n45 (eqb-true id clearAllId e))) (λ e.
+    either P (eqb id ackId) (λ e. absurd (n47 (eqb-true id ackId e))) (λ e.
+    either P (eqb id requestIntId) (λ e. refl) (λ e.
+    either P (eqb id itemIntId) (λ e. refl) (λ e.
+    either P (eqb id statustextId) (λ e. refl) (λ e. refl)))))))))
+  where
+    P : Message → Type 0
+    P m = isKnown kind ≡ kindOk kind (requestOf m)
+
+-- a message that is read here and is none of the others is ITEM_INT
+pub item-left : (id : ℕ) (p : Bytes) → isRead (decode id p) ≡ true
+    → (id ≡ setCurrentId → ⊥) → (id ≡ requestListId → ⊥) → (id ≡ countId → ⊥) → (id ≡ clearAllId → ⊥) → (id ≡ ackId → ⊥) → (id ≡ requestIntId → ⊥)
+    → id ≡ itemIntId
+unfolding decode messageOf
+item-left id p read n41 n43 n44 n45 n47 n51 =
+    either P (eqb id setCurrentId) (λ e r. absurd (n41 (eqb-true id setCurrentId e))) (λ e.
+    either P (eqb id currentId) (λ e r. absurd (true≢false (sym r))) (λ e.
+    either P (eqb id requestListId) (λ e r. absurd (n43 (eqb-true id requestListId e))) (λ e.
+    either P (eqb id countId) (λ e r. absurd (n44 (eqb-true id countId e))) (λ e.
+    either P (eqb id clearAllId) (λ e r. absurd (n45 (eqb-true id clearAllId e))) (λ e.
+    either P (eqb id ackId) (λ e r. absurd (n47 (eqb-true id ackId e))) (λ e.
+    either P (eqb id requestIntId) (λ e r. absurd (n51 (eqb-true id requestIntId e))) (λ e.
+    either P (eqb id itemIntId) (λ e r. eqb-true id itemIntId e) (λ e.
+    either P (eqb id statustextId) (λ e r. absurd (true≢false (sym r))) (λ e r. absurd (true≢false (sym r))))))))))) read
+  where
+    P : Message → Type 0
+    P m = isRead m ≡ true → id ≡ itemIntId

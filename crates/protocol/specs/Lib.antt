@@ -1,0 +1,3 @@
+-- What the contracts of answering cite.
+pub mod Answered
+pub mod Ranged

@@ -1,0 +1,97 @@
+-- Each return is the first test that holds, in the rules' order: one lemma a return, over the facts on its way.
+use mathlib.Core.Path.{_≡_, ap, sym, _∙_}
+use mathlib.Core.Bool.{Bool, true, false, not, _&&_, cond}
+use Prim.Native.Nat.{ℕ}
+use lib.Dec.{eqb}
+use lib.ListN.{length}
+use borrow.Author.Needs.{needs}
+use borrow.Author.Tests.{eq-eqb, ne-eqb}
+use Rattle.rules.specs.Limits.{emptyPayload, notRead, notForUs}
+use Rattle.rules.specs.Payload.{Bytes}
+use Rattle.rules.specs.Messages.{Station, station, decode}
+use Rattle.rules.specs.Calls.{refuses, request, message, heard, oursOrAll}
+use Rattle.wire.specs.declared.table.Head.{Head}
+use Rattle.wire.specs.Table.{isRead, targetOf, kindOf, headOf}
+use Rattle.refusal.specs.Refusals.{refusalOf, requestOf, roomRefusal, isForUs, heardBy, heard-by, refused-first, room-found, room-passed}
+use Rattle.refusal.proofs.message_refusal.Statement.{statement}
+use Rattle.refusal.proofs.message_refusal.Tie as tie
+
+module _ (ranged : Bool) (system component : ℕ) (from : Station) (id : ℕ) (p : Bytes) (clock store reply first : ℕ)
+    (by : first ≡ roomRefusal ranged store reply) where
+  abbrev own : Station
+  own = station system component
+
+  abbrev refusal : ℕ
+  refusal = refusalOf (heard ranged (message own from id p clock store reply))
+
+  earlier : (first ≡ 0 → ⊥) → first ≡ refusal
+  unfolding heardBy
+  earlier some = by ∙ refused-first ranged store reply _ (λ none. some (by ∙ none)) ∙ ap refusalOf (sym (heard-by ranged own from id p clock store reply))
+
+  -- where there is room, the other tests decide
+  rest : first ≡ 0
+      → refusal
+      ≡ refusalOf (cond (eqb (length p) 0) (refuses emptyPayload)
+      (cond (not (isRead (decode id p))) (refuses notRead)
+      (cond (not (isForUs own (targetOf (decode id p)))) (refuses notForUs) (request from clock (kindOf (decode id p)) (requestOf (decode id p))))))
+  unfolding heardBy
+  rest none = ap refusalOf (heard-by ranged own from id p clock store reply ∙ room-passed ranged store reply _ (room-found ranged store reply (sym by ∙ none)))
+
+  empty-payload : first ≡ 0 → length p ≡ 0 → emptyPayload ≡ refusal
+  empty-payload none empty = rw (rest none, eq-eqb _ _ empty)
+
+  module _ (none : first ≡ 0) (some : length p ≡ 0 → ⊥) (read : Bool) (reads : (q : Bytes) → read ≡ isRead (decode id q)) where
+    not-read : not read ≡ true → notRead ≡ refusal
+    not-read unread = rw (rest none, ne-eqb _ _ some, (rw (reads p) at unread))
+
+    module _ (is : not read ≡ false) (head : Head) (heads : head ≡ headOf (decode id p)) (a b : Bool) (ours : a ≡ oursOrAll system (head .system)) (ours′ : b ≡ oursOrAll component (head .component)) where
+      not-for-us : not (a && b) ≡ true → notForUs ≡ refusal
+      not-for-us other = rw (rest none, ne-eqb _ _ some, (rw (reads p) at is), (rw (ours, ours′, heads) at other))
+
+      passes : not (a && b) ≡ false → 0 ≡ refusal
+      passes other = rw (rest none, ne-eqb _ _ some, (rw (reads p) at is), (rw (ours, ours′, heads) at other))
+
+room-refusal-requires : tie.Need-room-refusal-requires
+room-refusal-requires c κs = search needs
+
+returns : tie.Need-returns
+returns c from clock = search (earlier, needs)
+
+returns-2 : tie.Need-returns-2
+returns-2 c from clock = search (empty-payload, needs)
+
+is-read-requires : tie.Need-is-read-requires
+is-read-requires c κs = search needs
+
+returns-3 : tie.Need-returns-3
+returns-3 c from clock = search (not-read, needs)
+
+head-of-requires : tie.Need-head-of-requires
+head-of-requires c κs = search needs
+
+ours-or-all-requires : tie.Need-ours-or-all-requires
+ours-or-all-requires c κs = search needs
+
+ours-or-all-requires-2 : tie.Need-ours-or-all-requires-2
+ours-or-all-requires-2 c κs = search needs
+
+returns-4 : tie.Need-returns-4
+returns-4 c from clock = search (not-for-us, needs)
+
+returns-5 : tie.Need-returns-5
+returns-5 c from clock = search (passes, needs)
+
+pub message-refusal-spec : {M : Type 1} → statement M
+message-refusal-spec =
+    tie.close
+    (tie.spec
+    room-refusal-requires
+    returns
+    returns-2
+    is-read-requires
+    returns-3
+    head-of-requires
+    ours-or-all-requires
+    ours-or-all-requires-2
+    returns-4
+    returns-5)

@@ -1,0 +1,113 @@
+// The drone's mission service: a fresh start, a message, a timer call and "command done". These are its only public calls; none asks anything of its
+// caller. What each promises is `Serves` of specs/Calls.antt, over the rules' own step.
+ghost use mathlib.Core.Path.{_≡_};
+ghost use lib.ListN.{length};
+ghost use mathlib.Core.List.{[]};
+ghost use Rattle.rules.specs.Messages.{station};
+ghost use Rattle.rules.specs.Calls as calls;
+ghost use Rattle.plan.specs.View.{freshState};
+ghost use Rattle.service.specs.Calls.{Serves, served, advanced};
+use next_command::Command;
+use plan::State;
+use protocol::Served;
+
+const NO_REPLY: u8 = 1;
+
+// What a "command done" call returns: the state after it, its outcome, and the command.
+pub struct Advanced {
+    pub state: State,
+    pub outcome: u8,
+    pub command: Command,
+}
+
+// A fresh start. Wrong answers that this rules out: a plan that is not empty, and a kind in the second half of the store.
+pub fn fresh() -> State
+    ensures { λ r. ⌜ r ≡ freshState ⌝ }
+{
+    plan::fresh()
+}
+
+// A message call. Wrong answers that this rules out: a refusal of a COUNT that fits (the rules request item 0), and a reply to an ACK.
+pub fn message(
+    state: State,
+    store: &mut [u8],
+    reply: &mut [u8],
+    own_system: u8,
+    own_component: u8,
+    system: u8,
+    component: u8,
+    id: u32,
+    payload: &[u8],
+    clock: u32,
+) -> Served
+    ensures { λ r. ⌜ Serves (calls.message (station «own_system» «own_component») (station system component) id (now (payload .entry)) clock (length (now (store .entry))) (length (now (reply .entry)))) state (now (store .entry)) (now (store .exit)) (now (reply .entry)) (now (reply .exit)) (served r) ⌝ }
+{
+    let ranged = plan::ranges::ranged(state);
+    let refused = refusal::message_refusal(
+        ranged,
+        store.len(),
+        reply.len(),
+        own_system,
+        own_component,
+        id,
+        payload,
+    );
+    if refused != 0 {
+        return Served {
+            state,
+            outcome: refused,
+            id: 0,
+            len: 0,
+        };
+    }
+    protocol::answer::answer(
+        state,
+        store,
+        reply,
+        system,
+        component,
+        id,
+        payload,
+        clock,
+    )
+}
+
+// A timer call for one kind. Wrong answers that this rules out: an expiry at 249 ms, and a reply to another station than the upload's.
+pub fn timer(state: State, store: &[u8], reply: &mut [u8], kind: u8, clock: u32) -> Served
+    ensures { λ r. ⌜ Serves (calls.timer kind clock (length (now (store .entry))) (length (now (reply .entry)))) state (now (store .entry)) (now (store .entry)) (now (reply .entry)) (now (reply .exit)) (served r) ⌝ }
+{
+    let ranged = plan::ranges::ranged(state);
+    let refused = refusal::timer_refusal(ranged, store.len(), reply.len(), kind);
+    if refused != 0 {
+        return Served {
+            state,
+            outcome: refused,
+            id: 0,
+            len: 0,
+        };
+    }
+    protocol::turn::on_timer(state, kind, clock, reply)
+}
+
+// A "command done" call. Wrong answers that this rules out: a state that changes although the answer is Stuck, and an item answered that is not the next.
+pub fn advance(state: State, store: &[u8]) -> Advanced
+    ensures { λ r. ⌜ Serves (calls.done (length (now (store .entry)))) state (now (store .entry)) (now (store .entry)) [] [] (advanced r) ⌝ }
+{
+    let ranged = plan::ranges::ranged(state);
+    let refused = refusal::done_refusal(ranged, store.len());
+    if refused != 0 {
+        return Advanced {
+            state,
+            outcome: refused,
+            command: Command::Stuck,
+        };
+    }
+    let next = next_command::next(state, store);
+    let after = next.state;
+    let command = next.command;
+    Advanced {
+        state: after,
+        outcome: NO_REPLY,
+        command,
+    }
+}

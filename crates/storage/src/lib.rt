@@ -1,0 +1,61 @@
+// An item in the store: kept as its 38 bytes at its place, and fetched from there as a struct.
+ghost use mathlib.Core.Path.{_≡_};
+ghost use Prim.Native.Nat.{_≤_, _<_};
+ghost use lib.ListN.{length};
+ghost use Rattle.rules.specs.Limits.{rally, sizeOf, storeBytes};
+ghost use Rattle.rules.specs.Messages.{itemIn, itemOf};
+ghost use Rattle.item.specs.Patterns.{itemFor};
+ghost use Rattle.wire.specs.Structs.{patternsItem};
+ghost use Rattle.plan.specs.Places.{itemAt};
+ghost use Rattle.plan.specs.Writes.{putAt};
+use item::Item;
+use plan::items::put_item;
+use plan::places::ITEM_BYTES;
+use plan::places::place_at;
+use wire::Patterns;
+
+// The address and the current field of a stored item.
+const NOBODY: u8 = 0;
+
+const NOT_CURRENT: u8 = 0;
+
+// What the item with a number says.
+pub fn fetch_patterns(store: &[u8], kind: u8, half: bool, n: u16) -> Patterns
+    requires { ⌜ (storeBytes ≤ length (now store)) × (kind ≤ rally) × (n < sizeOf kind) ⌝ }
+    ensures { λ r. ⌜ patternsItem r ≡ itemIn (itemAt (now (store .entry)) half kind n) ⌝ }
+{
+    let at = place_at(kind, half, n);
+    let end = at + ITEM_BYTES;
+    wire::patterns_at(&store[at..end])
+}
+
+// The item with a number, with its values.
+pub fn fetch(store: &[u8], kind: u8, half: bool, n: u16) -> Item
+    requires { ⌜ (storeBytes ≤ length (now store)) × (kind ≤ rally) × (n < sizeOf kind) ⌝ }
+    ensures { λ r. ⌜ r ≡ itemFor (itemIn (itemAt (now (store .entry)) half kind n)) ⌝ }
+{
+    let p = fetch_patterns(store, kind, half, n);
+    item::made(
+        p.bits1,
+        p.bits2,
+        p.bits3,
+        p.bits4,
+        p.bits_x,
+        p.bits_y,
+        p.bits_z,
+        p.seq,
+        p.command,
+        p.frame,
+        p.autocontinue,
+        p.kind,
+    )
+}
+
+// The item becomes the one with a number; every other byte of the store stays.
+pub fn keep(store: &mut [u8], kind: u8, half: bool, n: u16, patterns: Patterns)
+    requires { ⌜ (storeBytes ≤ length (now store)) × (kind ≤ rally) × (n < sizeOf kind) ⌝ }
+    ensures { λ _. ⌜ now (store .exit) ≡ putAt (now (store .entry)) half kind n (itemOf (patternsItem patterns)) ⌝ }
+{
+    let bytes = reply::item_bytes(NOBODY, NOBODY, NOT_CURRENT, patterns);
+    put_item(store, place_at(kind, half, n), bytes);
+}

@@ -1,0 +1,100 @@
+// COUNT, ACK and a timer call: what each makes of one kind's plan.
+ghost use mathlib.Core.Path.{_≡_};
+ghost use Rattle.rules.specs.Messages.{station};
+ghost use Rattle.upload.specs.Turns.{countTurned, ackTurned, timerTurned};
+use super::Say;
+use super::Turned;
+use super::numbers::elapsed;
+use super::updates::emptied;
+use super::updates::ended;
+use super::updates::keeps;
+use super::updates::renews;
+use super::updates::with_upload;
+use super::uploads::others_upload;
+use super::uploads::own_upload;
+use plan::Plan;
+use plan::Run;
+use plan::Upload;
+
+pub const ACCEPTED: u8 = 0;
+
+const NO_SPACE: u8 = 4;
+
+pub const DENIED: u8 = 14;
+
+const CANCELLED: u8 = 15;
+
+const EXPIRY_MS: u32 = 250;
+
+const MAX_REPEATS: u8 = 5;
+
+// COUNT from a station, of a kind whose plans have at most `size` items.
+pub fn on_count(plan: Plan, system: u8, component: u8, clock: u32, count: u16, size: u16) -> Turned
+    ensures { λ r. ⌜ r ≡ countTurned plan (station system component) clock count size ⌝ }
+{
+    let upload = plan.upload;
+    if others_upload(upload, system, component) {
+        return keeps(plan, Say::Ack(DENIED, 0));
+    }
+    if size < count {
+        return keeps(ended(plan), Say::Ack(NO_SPACE, 0));
+    }
+    if count == 0 {
+        return renews(emptied(plan), Say::Ack(ACCEPTED, 0));
+    }
+    let run = Run {
+        system,
+        component,
+        count,
+        next: 0,
+        started: clock,
+        repeats: 0,
+    };
+    keeps(with_upload(plan, Upload::Running(run)), Say::Ask(0))
+}
+
+// ACK from a station: a result that is not 0 ends the station's own upload.
+pub fn on_ack(plan: Plan, system: u8, component: u8, result: u8) -> Turned
+    ensures { λ r. ⌜ r ≡ ackTurned plan (station system component) result ⌝ }
+{
+    let upload = plan.upload;
+    if own_upload(upload, system, component) & (result != ACCEPTED) {
+        return keeps(ended(plan), Say::Silent);
+    }
+    keeps(plan, Say::Silent)
+}
+
+// A timer call of a running upload: below the expiry nothing, then five times a request again, then the end.
+fn on_expiry(plan: Plan, run: Run, clock: u32) -> Turned
+    ensures { λ r. ⌜ r ≡ timerTurned (Upload.Running run) plan clock ⌝ }
+{
+    if elapsed(clock, run.started) < EXPIRY_MS {
+        return keeps(plan, Say::Silent);
+    }
+    if run.repeats < MAX_REPEATS {
+        let again = Run {
+            system: run.system,
+            component: run.component,
+            count: run.count,
+            next: run.next,
+            started: clock,
+            repeats: run.repeats + 1,
+        };
+        return keeps(
+            with_upload(plan, Upload::Running(again)),
+            Say::Ask(run.next),
+        );
+    }
+    keeps(ended(plan), Say::Ack(CANCELLED, 0))
+}
+
+// A timer call.
+pub fn on_timer(plan: Plan, clock: u32) -> Turned
+    ensures { λ r. ⌜ r ≡ timerTurned (plan .upload) plan clock ⌝ }
+{
+    let upload = plan.upload;
+    match upload {
+        Upload::Idle => keeps(plan, Say::Silent),
+        Upload::Running(run) => on_expiry(plan, run, clock),
+    }
+}

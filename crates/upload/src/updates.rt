@@ -1,0 +1,73 @@
+// One function for each update of a plan, and what a handler answers.
+ghost use mathlib.Core.Path.{_≡_};
+ghost use Rattle.upload.specs.Turns.{withUpload, ended, emptied, replaced, keeps, renews};
+use super::Say;
+use super::Turned;
+use super::numbers::next_number;
+use plan::Plan;
+use plan::Upload;
+
+// The plan with another upload.
+pub fn with_upload(plan: Plan, upload: Upload) -> Plan
+    ensures { λ r. ⌜ r ≡ withUpload plan upload ⌝ }
+{
+    Plan {
+        len: plan.len,
+        half: plan.half,
+        number: plan.number,
+        upload,
+    }
+}
+
+// The plan without an upload.
+pub fn ended(plan: Plan) -> Plan
+    ensures { λ r. ⌜ r ≡ ended plan ⌝ }
+{
+    with_upload(plan, Upload::Idle)
+}
+
+// The plan without items and without an upload; its half and its number stay.
+pub fn emptied(plan: Plan) -> Plan
+    ensures { λ r. ⌜ r ≡ emptied plan ⌝ }
+{
+    Plan {
+        len: 0,
+        half: plan.half,
+        number: plan.number,
+        upload: Upload::Idle,
+    }
+}
+
+// The plan of `len` items in the other half, with the next number and no upload.
+pub fn replaced(plan: Plan, len: u16) -> Plan
+    ensures { λ r. ⌜ r ≡ replaced plan len ⌝ }
+{
+    Plan {
+        len,
+        half: !plan.half,
+        number: next_number(plan.number),
+        upload: Upload::Idle,
+    }
+}
+
+// The answer with a plan that was neither replaced nor emptied.
+pub fn keeps(plan: Plan, say: Say) -> Turned
+    ensures { λ r. ⌜ r ≡ keeps plan say ⌝ }
+{
+    Turned {
+        plan,
+        renewed: false,
+        say,
+    }
+}
+
+// The answer with a plan that was replaced or emptied.
+pub fn renews(plan: Plan, say: Say) -> Turned
+    ensures { λ r. ⌜ r ≡ renews plan say ⌝ }
+{
+    Turned {
+        plan,
+        renewed: true,
+        say,
+    }
+}
