@@ -5,3 +5,4 @@ pub mod Valid
 pub mod Meeting
 pub mod Finding
 pub mod Advanced
+pub mod Ranges

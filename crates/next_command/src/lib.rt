@@ -8,7 +8,7 @@ ghost use mathlib.Core.Path.{_≡_};
 ghost use mathlib.Core.Bool.{true, cond};
 ghost use Prim.Native.Nat.{_+_, _≤_, _<_};
 ghost use lib.ListN.{length};
-ghost use Rattle.rules.specs.Limits.{storeBytes};
+ghost use Rattle.rules.specs.Limits.{flight, sizeOf, storeBytes};
 ghost use Rattle.rules.specs.Model.{inRange};
 ghost use Rattle.plan.specs.View.{view};
 ghost use Rattle.next_command.specs.Advanced.{Advanced, reachedAs};
@@ -33,8 +33,8 @@ pub struct Advance {
 
 // The item at which the search begins.
 fn start(current: u16, begun: bool) -> u16
-    requires { ⌜ current < 256 ⌝ }
-    ensures { λ r. ⌜ (r ≡ cond begun (current + 1) current) × (r ≤ 256) ⌝ }
+    requires { ⌜ current < sizeOf flight ⌝ }
+    ensures { λ r. ⌜ (r ≡ cond begun (current + 1) current) × (r ≤ sizeOf flight) ⌝ }
 {
     if begun {
         return current + 1;

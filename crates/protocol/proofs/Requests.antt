@@ -1,12 +1,10 @@
 -- What a message asks by its id: which kinds it may have, and which id is left where the others are excluded. Both go down the
 -- rules' chain of ids.
-use Prim.Native.Nat.{ℕ, _≤_}
-use mathlib.Core.Path.{_≡_, refl, sym, _∙_}
-use mathlib.Core.Bool.{Bool, true, false, true≢false}
-use native.Mathlib.Omega.{arith}
+use Prim.Native.Nat.{ℕ}
+use mathlib.Core.Path.{_≡_, refl, sym}
+use mathlib.Core.Bool.{true, false, true≢false}
 use lib.Dec.{eqb}
-use borrow.Author.Tests.{eqb-true, leb-true}
-use Rattle.rules.specs.Limits.{rally}
+use borrow.Author.Tests.{eqb-true}
 use Rattle.rules.specs.Payload.{Bytes}
 use Rattle.rules.specs.Layouts.{setCurrentId, currentId, requestListId, countId, clearAllId, ackId, requestIntId, itemIntId, statustextId}
 use Rattle.rules.specs.Messages.{Message, messageOf, decode}

@@ -1,15 +1,101 @@
-// Reading each message and answering it, over the whole state. What is refused is not heard here.
+// One message call that is not refused: kind first, then what its message does.
+ghost use mathlib.Core.Path.{_≡_};
+ghost use mathlib.Core.Bool.{true};
+ghost use Prim.Native.Nat.{_≤_};
+ghost use lib.ListN.{length};
+ghost use Rattle.rules.specs.Limits.{storeBytes, replyBytesMin};
+ghost use Rattle.rules.specs.Payload.{Bytes};
+ghost use Rattle.rules.specs.Messages.{station, decode};
+ghost use Rattle.rules.specs.Step.{kindOk};
+ghost use Rattle.wire.specs.Table.{isRead, kindOf};
+ghost use Rattle.plan.specs.Ranges.{stateRanged};
+ghost use Rattle.refusal.specs.Refusals.{requestOf};
+ghost use Rattle.engine.specs.Whole.{messageDone};
+ghost use Rattle.messages.specs.Answered.{Handled};
+use messages::Served;
+use messages::say::ack;
+use messages::show::on_list;
+use messages::show::on_request;
+use messages::show::on_set_current;
+use messages::turn::on_ack;
+use messages::turn::on_clear;
+use messages::turn::on_count;
+use messages::turn::on_item;
+use plan::RALLY;
 use plan::State;
 
-pub mod answer;
-pub mod say;
-pub mod show;
-pub mod turn;
+const EVERY_KIND: u8 = 255;
 
-// What a call returns beside the store and the reply buffer: the state after it, its outcome, and the reply's id and length.
-pub struct Served {
-    pub state: State,
-    pub outcome: u8,
-    pub id: u32,
-    pub len: usize,
+const UNSUPPORTED: u8 = 3;
+
+// Whether a message of an id may have a kind: 255 only in CLEAR_ALL (45), and an ACK (47) never gets a reply, whatever its kind.
+fn kind_ok(id: u32, kind: u8) -> bool
+    ensures { λ r. ⌜ ((p : Bytes) → r ≡ kindOk kind (requestOf (decode id p))) ⌝ }
+{
+    match id {
+        45 => (kind <= RALLY) | (kind == EVERY_KIND),
+        47 => true,
+        _ => kind <= RALLY,
+    }
+}
+
+pub fn answer(
+    state: State,
+    store: &mut [u8],
+    reply: &mut [u8],
+    system: u8,
+    component: u8,
+    id: u32,
+    payload: &[u8],
+    clock: u32,
+) -> Served
+    requires { ⌜ (stateRanged state ≡ true) × (storeBytes ≤ length (now store)) × (replyBytesMin ≤ length (now reply)) × (isRead (decode id (now payload)) ≡ true) ⌝ }
+    ensures { λ r. ⌜ Handled (messageDone state (now (store .entry)) (station system component) clock (kindOf (decode id (now (payload .entry)))) (requestOf (decode id (now (payload .entry))))) (now (store .exit)) (now (reply .entry)) (now (reply .exit)) r ⌝ }
+{
+    let head = wire::head_of(id, payload);
+    let kind = head.kind;
+    if !kind_ok(id, kind) {
+        let said = ack(UNSUPPORTED, kind, 0, system, component, reply);
+        return Served {
+            state,
+            outcome: said.outcome,
+            id: said.id,
+            len: said.len,
+        };
+    }
+    match id {
+        41 => {
+            let m = wire::read_set_current(payload);
+            on_set_current(state, m.seq, reply)
+        }
+        43 => on_list(state, kind, system, component, reply),
+        44 => {
+            let m = wire::read_count(payload);
+            on_count(state, kind, m.count, system, component, clock, reply)
+        }
+        45 => on_clear(state, kind, system, component, reply),
+        47 => {
+            let m = wire::read_ack(payload);
+            on_ack(state, kind, m.result, system, component)
+        }
+        51 => {
+            let m = wire::read_request_int(payload);
+            on_request(state, store, kind, m.seq, system, component, reply)
+        }
+        // ITEM_INT (73) is the only other message that is read here.
+        _ => {
+            let m = wire::read_item_int(payload);
+            let patterns = m.patterns;
+            on_item(
+                state,
+                store,
+                kind,
+                patterns,
+                system,
+                component,
+                clock,
+                reply,
+            )
+        }
+    }
 }

@@ -1,10 +1,10 @@
 -- The refusal of a call as a number, and what a call that is not refused says: its request, with room in store and reply buffer.
 use mathlib.Core.Path.{_≡_, refl, _∙_, sym, ap}
 use mathlib.Core.Bool.{Bool, true, false, not, cond, _&&_}
-use Prim.Native.Nat.{ℕ, suc, _≤_}
+use Prim.Native.Nat.{ℕ, _≤_}
 use native.Mathlib.Omega.{arith}
 use lib.ListN.{length}
-use lib.Dec.{eqb, leb, ltb}
+use lib.Dec.{eqb, ltb}
 use borrow.Author.Tests.{ltb-false, leb-true, eqb-true, eqb-false, not-false, le-ltb, le-leb}
 use Rattle.rules.specs.Limits.{rally, storeBytes, replyBytesMin, shortStore, outOfRange, shortReply, emptyPayload, notRead, notForUs}
 use Rattle.rules.specs.Payload.{Bytes}
@@ -18,6 +18,13 @@ refusalOf (refuses outcome) = outcome
 refusalOf (request from now kind r) = 0
 refusalOf (expiry now kind) = 0
 refusalOf commandDone = 0
+
+-- a call that is refused is refused with its outcome
+pub refused-with : (h : Heard) (outcome : ℕ) → refusalOf h ≡ outcome → (outcome ≡ 0 → ⊥) → h ≡ refuses outcome
+refused-with (refuses n) outcome e some = ap refuses e
+refused-with (request from now kind r) outcome e some = absurd (some (sym e))
+refused-with (expiry now kind) outcome e some = absurd (some (sym e))
+refused-with commandDone outcome e some = absurd (some (sym e))
 
 -- what a message says beside its target and its kind; one that is not read here says nothing
 abbrev pub requestOf : Message → Request
@@ -142,9 +149,9 @@ room-there ranged store reply h e = go (eqb (roomRefusal ranged store reply) 0) 
         absurd (eqb-false (roomRefusal ranged store reply) 0 some (refused-first ranged store reply h (eqb-false (roomRefusal ranged store reply) 0 some) ∙ e))
 
 -- a test that refuses with a number above 0 failed where nothing is refused
-passed : (t : Bool) (n : ℕ) (h : Heard) → refusalOf (cond t (refuses (suc n)) h) ≡ 0 → (t ≡ false) × (refusalOf h ≡ 0)
-passed true n h e = absurd (omega arith)
-passed false n h e = (refl, e)
+passed : (t : Bool) (n : ℕ) (h : Heard) → 1 ≤ n → refusalOf (cond t (refuses n) h) ≡ 0 → (t ≡ false) × (refusalOf h ≡ 0)
+passed true n h above e = absurd (omega arith)
+passed false n h above e = (refl, e)
 
 known-passed : (kind clock : ℕ) → refusalOf (cond (isKnown kind) (expiry clock kind) (refuses notRead)) ≡ 0 → kind ≤ rally
 known-passed kind clock e = go (isKnown kind) refl e
@@ -161,9 +168,9 @@ message-heard ranged own from id p clock store reply e =
     let by = heard-by ranged own from id p clock store reply in
     let there = room-there ranged store reply _ (ap refusalOf (sym by) ∙ e) in
     let on = room-passed ranged store reply _ there in
-    let first = passed (eqb (length p) 0) 10 _ (ap refusalOf (sym (by ∙ on)) ∙ e) in
-    let second = passed (not (isRead m)) 11 _ (first .1) in
-    let third = passed (not (isForUs own (targetOf m))) 12 _ (second .1) in
+    let first = passed (eqb (length p) 0) emptyPayload _ (omega arith) (ap refusalOf (sym (by ∙ on)) ∙ e) in
+    let second = passed (not (isRead m)) notRead _ (omega arith) (first .1) in
+    let third = passed (not (isForUs own (targetOf m))) notForUs _ (omega arith) (second .1) in
     record {
       there = there;
       read = not-false (isRead m) (second .0);

@@ -7,9 +7,9 @@ ghost use Rattle.rules.specs.Messages.{station};
 ghost use Rattle.rules.specs.Calls as calls;
 ghost use Rattle.plan.specs.View.{freshState};
 ghost use Rattle.service.specs.Calls.{Serves, served, advanced};
+use messages::Served;
 use next_command::Command;
 use plan::State;
-use protocol::Served;
 
 const NO_REPLY: u8 = 1;
 
@@ -60,16 +60,7 @@ pub fn message(
             len: 0,
         };
     }
-    protocol::answer::answer(
-        state,
-        store,
-        reply,
-        system,
-        component,
-        id,
-        payload,
-        clock,
-    )
+    protocol::answer(state, store, reply, system, component, id, payload, clock)
 }
 
 // A timer call for one kind. Wrong answers that this rules out: an expiry at 249 ms, and a reply to another station than the upload's.
@@ -86,7 +77,7 @@ pub fn timer(state: State, store: &[u8], reply: &mut [u8], kind: u8, clock: u32)
             len: 0,
         };
     }
-    protocol::turn::on_timer(state, kind, clock, reply)
+    messages::turn::on_timer(state, kind, clock, reply)
 }
 
 // A "command done" call. Wrong answers that this rules out: a state that changes although the answer is Stuck, and an item answered that is not the next.

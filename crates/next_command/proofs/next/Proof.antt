@@ -49,10 +49,10 @@ module _ (st : State) (store : Bytes) (ranged : inRange (view st store) ≡ true
       let first = both flightOk fenceOk (both (flightOk && fenceOk) rallyOk (plans-and-current .0) .0) .0 in
       leb-true (planOf st flight .len) (sizeOf flight) (both (leb (planOf st flight .len) (sizeOf flight)) (uploadRanged (sizeOf flight) (planOf st flight .upload)) first .0)
 
-  current-ranged : st .current < 256
+  current-ranged : st .current < sizeOf flight
   current-ranged = go (ltb (st .current) (planOf st flight .len)) refl (plans-and-current .1)
     where
-      go : (t : Bool) → ltb (st .current) (planOf st flight .len) ≡ t → (t || eqb (st .current) 0) ≡ true → st .current < 256
+      go : (t : Bool) → ltb (st .current) (planOf st flight .len) ≡ t → (t || eqb (st .current) 0) ≡ true → st .current < sizeOf flight
       go true e h = omega (arith, len-ranged, ltb-true (st .current) (planOf st flight .len) e)
       go false e h = omega (arith, eqb-true (st .current) 0 h)
 

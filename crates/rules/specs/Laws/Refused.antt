@@ -10,11 +10,34 @@ use Rattle.rules.specs.Messages.{Station, sameStation, Item, Message, se
 use Rattle.rules.specs.Items.{jumpsAmong, fault}
 use Rattle.rules.specs.Model.{Run, Upload, idle, running, Model, uploadOf, lengthOf, elapsed, expected, isLast, whole, wholeOk, isOthers, isOwn, inRange}
 use Rattle.rules.specs.Calls.{Call, Request, chooses, asksList, announces, clears, acknowledges, asksItem, brings, Heard, refuses, request, expiry, commandDone, heard}
-use Rattle.rules.specs.Step.{Answer, isRefused, Stepped, onCount, takes, onItem, onAck, onClear, anyOthers, covered, onList, onRequest, onSetCurrent, onKnown, kindOk, onMessage, onTimer, act, step}
+use Rattle.rules.specs.NextCommand.{stuck}
+use Rattle.rules.specs.Step.{Answer, refused, silent, says, orders, isRefused, commandIn, Stepped, onCount, takes, onItem, onAck, onClear, anyOthers, covered, onList, onRequest, onSetCurrent, onKnown, kindOk, onMessage, onTimer, act, step}
 use Rattle.rules.specs.Laws.Tests.{either}
 
+-- silence or a message: no refusal, and no command
+abbrev pub isPlain : Answer → Bool
+isPlain (refused outcome) = false
+isPlain silent = true
+isPlain (says reply) = true
+isPlain (orders c) = false
+
+clash : {A : Type 0} → false ≡ true → A
+clash e = absurd (true≢false (sym e))
+
+plain-answered : (a : Answer) → isPlain a ≡ true → isRefused a ≡ false
+plain-answered (refused outcome) e = clash e
+plain-answered silent e = refl
+plain-answered (says reply) e = refl
+plain-answered (orders c) e = clash e
+
+pub plain-stuck : (a : Answer) → isPlain a ≡ true → commandIn a ≡ stuck
+plain-stuck (refused outcome) e = clash e
+plain-stuck silent e = refl
+plain-stuck (says reply) e = refl
+plain-stuck (orders c) e = clash e
+
 abbrev Answered : Stepped → Type 0
-Answered s = isRefused (s .answer) ≡ false
+Answered s = isPlain (s .answer) ≡ true
 
 module _ (m : Model) (from : Station) (now kind : ℕ) where
   count-answered : (n : ℕ) → Answered (onCount m from now kind n)
@@ -45,18 +68,21 @@ module _ (m : Model) (from : Station) (now kind : ℕ) where
   known-answered (asksItem seq) = either Answered (ltb seq (lengthOf (m .shown) kind)) (λ t. refl) (λ t. refl)
   known-answered (brings item) = item-answered (uploadOf m kind) item
 
-  pub message-answered : (q : Request) → Answered (onMessage m from now kind q)
+  pub message-plain : (q : Request) → Answered (onMessage m from now kind q)
   unfolding onMessage
-  message-answered q = either Answered (kindOk kind q) (λ t. known-answered q) (λ t. refl)
+  message-plain q = either Answered (kindOk kind q) (λ t. known-answered q) (λ t. refl)
 
-pub timer-answered : (m : Model) (u : Upload) (now kind : ℕ) → Answered (onTimer u m now kind)
+pub timer-plain : (m : Model) (u : Upload) (now kind : ℕ) → Answered (onTimer u m now kind)
 unfolding onTimer
-timer-answered m idle now kind = refl
-timer-answered m (running r) now kind =
+timer-plain m idle now kind = refl
+timer-plain m (running r) now kind =
     either Answered (ltb (elapsed now (r .started)) expiryMs) (λ t. refl) (λ t. either Answered (ltb (r .repeats) maxRepeats) (λ t. refl) (λ t. refl))
 
-clash : {A : Type 0} → false ≡ true → A
-clash e = absurd (true≢false (sym e))
+pub message-answered : (m : Model) (from : Station) (now kind : ℕ) (q : Request) → isRefused (onMessage m from now kind q .answer) ≡ false
+message-answered m from now kind q = plain-answered (onMessage m from now kind q .answer) (message-plain m from now kind q)
+
+pub timer-answered : (m : Model) (u : Upload) (now kind : ℕ) → isRefused (onTimer u m now kind .answer) ≡ false
+timer-answered m u now kind = plain-answered (onTimer u m now kind .answer) (timer-plain m u now kind)
 
 -- a call answered by a refusal changes nothing
 pub refused-unchanged : (m : Model) (h : Heard) → isRefused (act m h .answer) ≡ true → act m h .model ≡ m

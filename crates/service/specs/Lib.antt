@@ -1,0 +1,2 @@
+-- What the contracts of the public calls cite.
+pub mod Calls

@@ -1,0 +1,96 @@
+//! Faults that can be planted in the reference. A comparison that does not find
+//! a planted fault is too weak.
+
+use crate::layout::{full_length, ACK, CLEAR_ALL, COUNT, ITEM_INT, REQUEST_INT, REQUEST_LIST};
+
+macro_rules! faults {
+    ($($case:ident $name:literal $what:literal)*) => {
+        #[derive(Clone, Copy, Debug, PartialEq, Eq)]
+        pub enum Fault {
+            /// The rules as they are.
+            None,
+            /// No fault: bytes that the rules leave free are written otherwise.
+            FreeBytes,
+            $(#[doc = $what] $case,)*
+        }
+
+        /// Every fault with its name and what it does.
+        pub const FAULTS: &[(Fault, &str, &str)] = &[$((Fault::$case, $name, $what),)*];
+    };
+}
+
+faults! {
+    Expiry249 "expiry-249" "a request expires after 249 ms"
+    SixthAtFour "sixth-at-four" "the upload ends at repeats 4"
+    TimerNotRestarted "timer-not-restarted" "a repeated request does not restart the timer"
+    ClockGreater "clock-greater" "clock readings are compared by greater than"
+    BackwardLate "backward-late" "elapsed 2^31 is an expiry"
+    WrongItemRestarts "wrong-item-restarts" "an item that is not expected restarts the timer"
+    RepeatsKept "repeats-kept" "an item taken leaves the repeats"
+    ClearAtCount "clear-at-count" "a nonzero COUNT empties the plan"
+    CountKeepsUpload "count-keeps-upload" "a COUNT above the size leaves the station's upload"
+    CountForeignSpace "count-foreign-space" "a foreign COUNT above the size gets 4"
+    RepeatEnds "repeat-ends" "a repeated item ends the upload"
+    JudgedBeforeNumber "judged-before-number" "an item is judged before its number"
+    AckAnswered "ack-answered" "an ACK gets a reply"
+    AckEndsAll "ack-ends-all" "a nonzero ACK ends all uploads of its station"
+    AckFromAnyone "ack-from-anyone" "a nonzero ACK of another station ends the upload"
+    ClearOwnOnly "clear-own-only" "CLEAR_ALL 255 clears the kinds without a foreign upload"
+    ShortKindLastByte "short-kind-last-byte" "kind is read from a short payload's last byte"
+    IdLowByte "id-low-byte" "ids are compared by their low byte"
+    ComponentIgnored "component-ignored" "the target component is not judged"
+    BufferBeforeRange "buffer-before-range" "outcome 10 comes before 15"
+    NotTrimmed "not-trimmed" "replies are not trimmed"
+    NumberZero "number-zero" "number 0 follows 4294967295"
+    EmptyShowsNumber "empty-shows-number" "an empty plan shows its number"
+    EmptySwitchesHalf "empty-switches-half" "emptying a plan switches its half"
+    HalfNotSwitched "half-not-switched" "a replacement leaves the half"
+    AddressKept "address-kept" "the stored item keeps the address bytes"
+    CurrentKept "current-kept" "the stored item keeps the sent current field"
+    FenceResetsFlight "fence-resets-flight" "emptying any plan restarts the flight"
+    SetCurrentBegun "set-current-begun" "SET_CURRENT leaves begun"
+    SetCurrentCounts "set-current-counts" "SET_CURRENT sets the jump counts to 0"
+    FenceEndUnchecked "fence-end-unchecked" "a fence run may end short at the plan's end"
+    FenceGaps "fence-gaps" "a circle may stand inside a fence run"
+    FenceTwoReturns "fence-two-returns" "two return points are allowed"
+    XLimit "x-limit" "x 900000001 is valid"
+    MinusZero "minus-zero" "minus zero is not at least 0"
+    NanHeading "nan-heading" "115 takes NaN"
+    FrameTwo "frame-two" "frame 2 is valid for all commands"
+    JumpToItself "jump-to-itself" "a jump may have its own number as target"
+    SixteenJumps "sixteen-jumps" "a sixteenth jump is valid"
+    Follow65 "follow-65" "65 jumps are followed"
+    PassedCounted "passed-counted" "jumps passed over count towards 64"
+    StuckKeepsCounts "stuck-keeps-counts" "Stuck keeps the jump counts of its search"
+    SearchTrusts "search-trusts" "the search does not judge the items it answers with"
+}
+
+impl Fault {
+    pub fn named(name: &str) -> Option<Fault> {
+        let found = FAULTS.iter().find(|(_, known, _)| *known == name);
+        found.map(|(fault, _, _)| *fault)
+    }
+
+    pub fn is(self, other: Fault) -> bool {
+        self == other
+    }
+}
+
+/// The payload with its last byte moved to the kind's place, if it is short.
+pub fn kind_from_last_byte(id: u32, payload: &[u8]) -> Vec<u8> {
+    let kind_at = match id {
+        REQUEST_LIST | CLEAR_ALL => 2,
+        ACK => 3,
+        COUNT | REQUEST_INT => 4,
+        ITEM_INT => 37,
+        _ => return payload.to_vec(),
+    };
+    let mut bent = payload.to_vec();
+    if let (Some(full), Some(last)) = (full_length(id), payload.last()) {
+        if payload.len() < full {
+            bent.resize(full, 0);
+            bent[kind_at] = *last;
+        }
+    }
+    bent
+}

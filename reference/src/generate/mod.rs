@@ -1,0 +1,471 @@
+//! Hostile call lists by seed. The generator plays its own records, so that it
+//! knows which uploads run and can go on with them.
+//!
+//! After an expected invalid item, or a last item whose fence fails, the bytes
+//! of its place are free. The generator remembers such places and shows none of
+//! them: it writes over them before a POKE, and leaves CMP out.
+
+mod episodes;
+mod noise;
+mod values;
+
+use crate::fault::Fault;
+use crate::layout::{address, Address, Item, Message, ITEM_INT, REQUEST_INT};
+use crate::limits::*;
+use crate::random::Random;
+use crate::script::{field, record, Player, Record, MAX_PAYLOAD, REPLY_ARRAY, STORE_ARRAY};
+use crate::state::{State, Upload};
+use crate::store::Shelf;
+
+/// Calls of one script; a longer list is split.
+const CALLS_PER_SCRIPT: usize = 2000;
+
+const STATIONS: [(usize, Address); 6] = [
+    (8, address(255, 190)),
+    (5, address(254, 190)),
+    (2, address(255, 191)),
+    (1, address(190, 255)),
+    (1, address(1, 1)),
+    (1, address(0, 0)),
+];
+
+const OWN_ADDRESSES: [(usize, Address); 4] =
+    [(6, address(1, 1)), (1, address(0, 0)), (1, address(255, 190)), (1, address(7, 200))];
+
+/// Clock readings around which a clock runs over or seems to go back.
+const EDGE_CLOCKS: [u32; 7] =
+    [0, 100, (1 << 31) - 200, 1 << 31, u32::MAX - 300, u32::MAX - 20, u32::MAX];
+
+/// A generated script: records, and bytes that end it.
+pub struct Script {
+    pub records: Vec<Record>,
+    pub ending: Vec<u8>,
+}
+
+impl Script {
+    pub fn bytes(&self) -> Vec<u8> {
+        let mut bytes = Vec::new();
+        self.records.iter().for_each(|record| record.write(&mut bytes));
+        bytes.extend(&self.ending);
+        bytes
+    }
+
+    /// One script with the records of all, ended as the last is.
+    pub fn joined(scripts: impl Iterator<Item = Script>) -> Script {
+        let mut joined = Script { records: Vec::new(), ending: Vec::new() };
+        for script in scripts {
+            joined.records.extend(script.records);
+            joined.ending = script.ending;
+        }
+        joined
+    }
+
+    pub fn calls(&self) -> usize {
+        self.records.iter().filter(|record| record.is_call()).count()
+    }
+}
+
+/// The scripts of a seed, with `calls` calls together.
+pub fn scripts(seed: u64, calls: usize) -> impl Iterator<Item = Script> {
+    let full = calls / CALLS_PER_SCRIPT;
+    let rest = calls % CALLS_PER_SCRIPT;
+    let sizes = std::iter::repeat_n(CALLS_PER_SCRIPT, full).chain((rest > 0).then_some(rest));
+    sizes.enumerate().map(move |(number, size)| {
+        let mixed = Random::new(seed).draw() ^ Random::new(number as u64).draw();
+        Generator::new(mixed).script(size)
+    })
+}
+
+/// The state that the next record starts from, and what was made so far.
+struct Generator {
+    random: Random,
+    mirror: Player,
+    records: Vec<Record>,
+    calls: usize,
+    limit: usize,
+    clock: u32,
+    own: Address,
+    /// The items that the running upload of each kind is to send.
+    planned: [Vec<Item>; KINDS],
+    /// Places whose bytes are free.
+    free: Vec<bool>,
+    /// True if the copy and the store differ in no free bytes.
+    comparable: bool,
+}
+
+impl Generator {
+    fn new(seed: u64) -> Generator {
+        Generator {
+            random: Random::new(seed),
+            mirror: Player::new(Fault::None),
+            records: Vec::new(),
+            calls: 0,
+            limit: 0,
+            clock: 0,
+            own: address(1, 1),
+            planned: Default::default(),
+            free: vec![false; 2 * HALF_PLACES],
+            comparable: false,
+        }
+    }
+
+    fn script(mut self, calls: usize) -> Script {
+        self.limit = calls;
+        self.fresh();
+        while self.more() {
+            self.episode();
+        }
+        self.dump();
+        let ending = self.ending();
+        Script { records: self.records, ending }
+    }
+
+    /// True until the script has its calls.
+    fn more(&self) -> bool {
+        self.calls < self.limit
+    }
+
+    /// Plays a record and adds it to the script. Calls past the limit are left
+    /// out.
+    fn emit(&mut self, record: Record) {
+        if record.is_call() {
+            if !self.more() {
+                return;
+            }
+            self.calls += 1;
+        }
+        let before = self.state().clone();
+        let printed_only = matches!(record.kind, record::DUMP | record::CMP);
+        if !printed_only {
+            self.mirror.record(&record, &mut Vec::new());
+        }
+        match record.kind {
+            record::MESSAGE => self.note_item(&before, &record),
+            record::WRITE => self.note_write(record.a as usize, record.payload.len()),
+            _ => {}
+        }
+        self.records.push(record);
+    }
+
+    /// Notes what an expected item does to the bytes of its place.
+    fn note_item(&mut self, before: &State, record: &Record) {
+        let Some(Message::ItemInt(item)) = Message::read(record.a, &record.payload) else {
+            return;
+        };
+        let returned = self.mirror.returned;
+        let plan = before.plans.get(usize::from(item.kind));
+        let (0, Some(plan)) = (returned.outcome, plan) else { return };
+        let Some(upload) = plan.upload else { return };
+        let sender = address(record.b[2], record.b[3]);
+        if upload.station != sender || upload.next != item.seq {
+            return;
+        }
+        let reply = Message::read(returned.id, &self.mirror.reply[..returned.len]);
+        let refused = matches!(reply, Some(Message::Ack { result, .. }) if result != 0);
+        let shelf = Shelf { kind: usize::from(item.kind), half: plan.other_half() };
+        let place = shelf.place(item.seq);
+        self.comparable &= !refused && !self.free[place];
+        self.free[place] = refused;
+    }
+
+    /// Notes which places a host's write settles.
+    fn note_write(&mut self, at: usize, len: usize) {
+        for place in at / ITEM_BYTES..self.free.len().min((at + len).div_ceil(ITEM_BYTES)) {
+            self.comparable &= !self.free[place];
+            let covered = at <= place * ITEM_BYTES && (place + 1) * ITEM_BYTES <= at + len;
+            self.free[place] &= !covered;
+        }
+    }
+
+    fn state(&self) -> &State {
+        self.mirror.state()
+    }
+
+    fn upload(&self, kind: usize) -> Option<Upload> {
+        self.state().plans[kind].upload
+    }
+
+    fn length(&self, kind: usize) -> u16 {
+        self.state().plans[kind].length
+    }
+
+    fn plan_shelf(&self, kind: usize) -> Shelf {
+        Shelf { kind, half: self.state().plans[kind].half }
+    }
+
+    fn upload_shelf(&self, kind: usize) -> Shelf {
+        Shelf { kind, half: self.state().plans[kind].other_half() }
+    }
+
+    fn any_kind(&mut self) -> usize {
+        self.random.weighted(&[(4, FLIGHT), (3, FENCE), (3, RALLY)])
+    }
+
+    fn any_station(&mut self) -> Address {
+        self.random.weighted(&STATIONS)
+    }
+
+    /// The station that uploads the kind, or any if none does.
+    fn uploader(&mut self, kind: usize) -> Address {
+        match self.upload(kind) {
+            Some(upload) => upload.station,
+            None => self.any_station(),
+        }
+    }
+
+    /// A station other than the one that uploads the kind.
+    fn stranger(&mut self, kind: usize) -> Address {
+        let mut station = self.any_station();
+        if self.upload(kind).is_some_and(|upload| upload.station == station) {
+            station.component ^= 1;
+        }
+        station
+    }
+
+    /// A target that means us.
+    fn target(&mut self) -> Address {
+        let Address { system, component } = self.own;
+        self.random.weighted(&[
+            (6, self.own),
+            (2, address(0, 0)),
+            (1, address(system, 0)),
+            (1, address(0, component)),
+        ])
+    }
+
+    fn pass_time(&mut self) {
+        let step = self.random.weighted(&[(4, 0), (6, 3), (3, 40), (1, 120), (1, 260)]);
+        self.clock = self.clock.wrapping_add(step);
+        if self.random.chance(1, 150) {
+            let near = self.random.pick(&EDGE_CLOCKS);
+            self.clock = near.wrapping_add(self.random.below(100) as u32);
+        }
+    }
+
+    /// A length of the store that suffices.
+    fn store_length(&mut self) -> u32 {
+        let longer = self.random.within(STORE_BYTES, STORE_ARRAY);
+        self.random.weighted(&[(8, STORE_BYTES), (1, STORE_ARRAY), (1, longer)]) as u32
+    }
+
+    /// A length of the reply buffer that suffices.
+    fn reply_length(&mut self) -> u32 {
+        let longer = self.random.within(REPLY_BYTES, REPLY_ARRAY);
+        self.random.weighted(&[(8, REPLY_BYTES), (1, REPLY_ARRAY), (1, longer)]) as u32
+    }
+
+    /// A message call with lent lengths that suffice.
+    fn message(&mut self, sender: Address, id: u32, payload: Vec<u8>) -> Record {
+        let Address { system, component } = self.own;
+        Record {
+            kind: record::MESSAGE,
+            b: [system, component, sender.system, sender.component, 0],
+            a: id,
+            clock: self.clock,
+            store: self.store_length(),
+            reply: self.reply_length(),
+            payload,
+        }
+    }
+
+    /// Sends a message, its payload trimmed, in full, between, or over-long.
+    fn send(&mut self, sender: Address, message: Message) {
+        self.pass_time();
+        let written = message.write();
+        let (least, full) = (written.trimmed().len(), written.full().len());
+        let mut payload = written.full().to_vec();
+        match self.random.below(16) {
+            0 => {}
+            1 => payload.truncate(self.random.within(least, full)),
+            2 => {
+                let most = if self.random.chance(1, 8) { MAX_PAYLOAD } else { full + 8 };
+                let len = self.random.within(full + 1, most);
+                payload.resize_with(len, || self.random.byte());
+            }
+            _ => payload.truncate(least),
+        }
+        let record = self.message(sender, message.id(), payload);
+        self.emit(record);
+    }
+
+    fn send_count(&mut self, sender: Address, kind: u8, count: u16) {
+        let (to, number) = (self.target(), self.random.pick(&[0, 0, 1, u32::MAX]));
+        self.send(sender, Message::Count { count, to, kind, number });
+    }
+
+    fn send_item(&mut self, sender: Address, item: Item) {
+        let to = self.target();
+        self.send(sender, Message::ItemInt(Item { to, ..item }));
+    }
+
+    fn send_ack(&mut self, sender: Address, result: u8, kind: u8) {
+        let (to, number) = (self.target(), self.random.pick(&[0, 0, 1, u32::MAX]));
+        self.send(sender, Message::Ack { to, result, kind, number });
+    }
+
+    fn send_clear(&mut self, sender: Address, kind: u8) {
+        let to = self.target();
+        self.send(sender, Message::ClearAll { to, kind });
+    }
+
+    fn send_request_list(&mut self, sender: Address, kind: u8) {
+        let to = self.target();
+        self.send(sender, Message::RequestList { to, kind });
+    }
+
+    fn send_request_int(&mut self, sender: Address, seq: u16, kind: u8) {
+        let to = self.target();
+        self.send(sender, Message::RequestInt { seq, to, kind });
+    }
+
+    fn send_set_current(&mut self, sender: Address, seq: u16) {
+        let to = self.target();
+        self.send(sender, Message::SetCurrent { seq, to });
+    }
+
+    fn timer(&mut self, kind: u8, clock: u32) {
+        let record = Record {
+            kind: record::TIMER,
+            b: [0, 0, 0, 0, kind],
+            clock,
+            store: self.store_length(),
+            reply: self.reply_length(),
+            ..Record::default()
+        };
+        self.emit(record);
+    }
+
+    fn done(&mut self) {
+        let store = self.store_length();
+        self.emit(Record { store, ..Record::of(record::DONE) });
+    }
+
+    fn dump(&mut self) {
+        self.emit(Record::of(record::DUMP));
+    }
+
+    fn snap(&mut self) {
+        self.comparable = true;
+        self.emit(Record::of(record::SNAP));
+    }
+
+    /// Compares with the copy, if free bytes cannot decide the answer.
+    fn compare(&mut self) {
+        if self.comparable {
+            self.emit(Record::of(record::CMP));
+        }
+    }
+
+    fn fresh(&mut self) {
+        self.free.fill(false);
+        self.comparable = false;
+        self.own = self.random.weighted(&OWN_ADDRESSES);
+        let fill = self.random.pick(&[0, 0xEE, 0xFF, 0xB1, 0x10]);
+        self.emit(Record { b: [fill, 0, 0, 0, 0], ..Record::of(record::FRESH) });
+    }
+
+    fn write(&mut self, at: usize, bytes: &[u8]) {
+        let record = Record::of(record::WRITE);
+        self.emit(Record { a: at as u32, payload: bytes.to_vec(), ..record });
+    }
+
+    fn poke(&mut self, poked: u8, index: usize, value: u32) {
+        let b = [index as u8, 0, 0, 0, poked];
+        self.emit(Record { b, a: value, ..Record::of(record::POKE) });
+    }
+
+    fn poke_length(&mut self, kind: usize, length: u16) {
+        self.settle_free_places(kind);
+        self.poke(field::LENGTH, kind, u32::from(length));
+    }
+
+    fn poke_half(&mut self, kind: usize, half: u8) {
+        self.settle_free_places(kind);
+        self.poke(field::HALF, kind, u32::from(half));
+    }
+
+    /// Pokes an upload whole.
+    fn poke_upload(&mut self, kind: usize, upload: Option<Upload>) {
+        self.settle_free_places(kind);
+        let Upload { station, count, next, start, repeats } = upload.unwrap_or_default();
+        let values = [
+            (field::RUNNING, u32::from(upload.is_some())),
+            (field::SYSTEM, u32::from(station.system)),
+            (field::COMPONENT, u32::from(station.component)),
+            (field::COUNT, u32::from(count)),
+            (field::NEXT, u32::from(next)),
+            (field::START, start),
+            (field::REPEATS, u32::from(repeats)),
+        ];
+        for (poked, value) in values {
+            self.poke(poked, kind, value);
+        }
+    }
+
+    /// Writes an item over every place of the kind whose bytes are free.
+    fn settle_free_places(&mut self, kind: usize) {
+        for half in [0, 1] {
+            let shelf = Shelf { kind, half };
+            for index in 0..PLAN_SIZE[kind] {
+                if self.free[shelf.place(index)] {
+                    let item = values::valid_item(&mut self.random, kind, index, 2);
+                    self.write(shelf.offset(index), &item.to_bytes());
+                }
+            }
+        }
+    }
+
+    /// Bytes that end a script: a record 0, nothing, or what cannot be played.
+    fn ending(&mut self) -> Vec<u8> {
+        let of = Record::of;
+        let records = match self.random.below(24) {
+            0 => vec![of(self.random.within(10, 15) as u8), of(record::DUMP)],
+            1 => vec![of(self.random.within(32, 255) as u8), of(record::DUMP)],
+            2 => vec![Record { payload: vec![0; MAX_PAYLOAD + 1], ..of(record::MESSAGE) }],
+            3 => vec![Record { store: STORE_ARRAY as u32 + 1, ..of(record::DONE) }],
+            4 => vec![Record { reply: REPLY_ARRAY as u32 + 1, ..of(record::TIMER) }],
+            5 => vec![Record { a: STORE_ARRAY as u32, payload: vec![0], ..of(record::WRITE) }],
+            6 => vec![Record { b: [0, 0, 0, 0, 13], ..of(record::POKE) }],
+            7 => vec![Record { b: [3, 0, 0, 0, 1], ..of(record::POKE) }],
+            8 => vec![Record { b: [15, 0, 0, 0, 12], ..of(record::POKE) }],
+            9 => vec![of(record::END), of(record::DUMP)],
+            10 => vec![],
+            11..=14 => return self.cut_record(),
+            _ => vec![of(record::END)],
+        };
+        let mut bytes = Vec::new();
+        records.iter().for_each(|record| record.write(&mut bytes));
+        bytes
+    }
+
+    /// A record that the end of input cuts, in its header or its payload.
+    fn cut_record(&mut self) -> Vec<u8> {
+        let payload = vec![1; self.random.within(1, 60)];
+        let id = self.random.pick(&[ITEM_INT, REQUEST_INT]);
+        let sender = self.any_station();
+        let mut bytes = Vec::new();
+        self.message(sender, id, payload).write(&mut bytes);
+        bytes.truncate(self.random.within(1, bytes.len() - 1));
+        bytes
+    }
+}
+
+#[cfg(test)]
+mod tests {
+    use super::*;
+
+    #[test]
+    fn a_seed_gives_one_list() {
+        let list = |seed| scripts(seed, 3000).map(|script| script.bytes()).collect::<Vec<_>>();
+        assert_eq!(list(1), list(1));
+        assert_ne!(list(1), list(2));
+    }
+
+    #[test]
+    fn calls_are_counted() {
+        for calls in [1, 10, 1999, 2000, 4500] {
+            let total: usize = scripts(3, calls).map(|script| script.calls()).sum();
+            assert_eq!(total, calls);
+        }
+    }
+}

@@ -1,0 +1,358 @@
+//! When an item is valid, and how its params are read.
+
+use crate::fault::Fault;
+use crate::layout::Item;
+use crate::limits::*;
+
+pub const DO_JUMP: u16 = 177;
+pub const RETURN_POINT: u16 = 5000;
+pub const VERTEX_INCLUSION: u16 = 5001;
+pub const VERTEX_EXCLUSION: u16 = 5002;
+
+/// Results of MAV_MISSION_RESULT that are used here.
+pub mod result {
+    pub const ACCEPTED: u8 = 0;
+    pub const UNSUPPORTED_FRAME: u8 = 2;
+    pub const UNSUPPORTED: u8 = 3;
+    pub const NO_SPACE: u8 = 4;
+    pub const INVALID: u8 = 5;
+    pub const INVALID_PARAM1: u8 = 6;
+    pub const INVALID_PARAM2: u8 = 7;
+    pub const INVALID_X: u8 = 10;
+    pub const INVALID_Y: u8 = 11;
+    pub const INVALID_Z: u8 = 12;
+    pub const INVALID_SEQUENCE: u8 = 13;
+    pub const DENIED: u8 = 14;
+    pub const CANCELLED: u8 = 15;
+}
+
+/// Where an item stands in its plan or upload.
+#[derive(Clone, Copy, Debug)]
+pub struct Standing {
+    pub kind: usize,
+    /// Its number.
+    pub number: u16,
+    /// Items of the whole plan.
+    pub count: u16,
+    /// Items with command 177 before it.
+    pub jumps_before: usize,
+}
+
+/// What a command asks of an item's params.
+#[derive(Clone, Copy, Debug, PartialEq, Eq)]
+enum ParamRule {
+    Free,
+    /// Param 1 finite, at least 0.
+    Amount,
+    /// Param 1 from 0 to 360.
+    Heading,
+    /// Param 1 a target, param 2 a repeat.
+    Jump,
+    /// Param 2 finite.
+    Speed,
+    /// Param 1 whole, 1 to 16; param 2 whole, 500 to 2500.
+    Servo,
+    /// Param 1 whole, 3 to 64.
+    Vertices,
+    /// Param 1 finite, above 0.
+    Radius,
+}
+
+/// The table of commands: kind, whether positional, and the params' rule.
+fn command_rule(command: u16) -> Option<(usize, bool, ParamRule)> {
+    Some(match command {
+        16 | 18 | 19 => (FLIGHT, true, ParamRule::Amount),
+        17 | 20 | 21 | 22 | 31 => (FLIGHT, true, ParamRule::Free),
+        112 | 114 => (FLIGHT, false, ParamRule::Amount),
+        115 => (FLIGHT, false, ParamRule::Heading),
+        177 => (FLIGHT, false, ParamRule::Jump),
+        178 => (FLIGHT, false, ParamRule::Speed),
+        183 => (FLIGHT, false, ParamRule::Servo),
+        5000 => (FENCE, true, ParamRule::Free),
+        5001 | 5002 => (FENCE, true, ParamRule::Vertices),
+        5003 | 5004 => (FENCE, true, ParamRule::Radius),
+        5100 => (RALLY, true, ParamRule::Free),
+        _ => return None,
+    })
+}
+
+/// Checks command, frame, params, x, y, z and jump room, in this order.
+pub fn judge(item: &Item, standing: &Standing, fault: Fault) -> Result<(), u8> {
+    let (kind, positional, rule) = command_rule(item.command).ok_or(result::UNSUPPORTED)?;
+    require(kind == standing.kind, result::UNSUPPORTED)?;
+    let frame_fits = positional_frame(item.frame)
+        || (item.frame == 2 && (!positional || fault.is(Fault::FrameTwo)));
+    require(frame_fits, result::UNSUPPORTED_FRAME)?;
+    check_params(item, rule, standing, fault)?;
+    if positional {
+        check_position(item, fault)?;
+    }
+    let room = MAX_JUMPS + usize::from(fault.is(Fault::SixteenJumps));
+    let fits = item.command != DO_JUMP || standing.jumps_before < room;
+    require(fits, result::NO_SPACE)
+}
+
+fn require(holds: bool, otherwise: u8) -> Result<(), u8> {
+    if holds {
+        Ok(())
+    } else {
+        Err(otherwise)
+    }
+}
+
+fn positional_frame(frame: u8) -> bool {
+    matches!(frame, 0 | 3 | 5 | 6 | 10 | 11)
+}
+
+fn check_params(item: &Item, rule: ParamRule, standing: &Standing, fault: Fault) -> Result<(), u8> {
+    let [first, second, _, _] = item.params;
+    let (first_fits, second_fits) = match rule {
+        ParamRule::Free => (true, true),
+        ParamRule::Amount => (finite(first) && at_least_zero(first, fault), true),
+        ParamRule::Heading => (heading(first, fault), true),
+        ParamRule::Jump => (jump_target(first, standing, fault), whole_within(second, -1, 32767)),
+        ParamRule::Speed => (true, finite(second)),
+        ParamRule::Servo => (whole_within(first, 1, 16), whole_within(second, 500, 2500)),
+        ParamRule::Vertices => (whole_within(first, 3, 64), true),
+        ParamRule::Radius => (finite(first) && f32::from_bits(first) > 0.0, true),
+    };
+    require(first_fits, result::INVALID_PARAM1)?;
+    require(second_fits, result::INVALID_PARAM2)
+}
+
+fn check_position(item: &Item, fault: Fault) -> Result<(), u8> {
+    let max_x = MAX_X + i64::from(fault.is(Fault::XLimit));
+    require(i64::from(item.x).abs() <= max_x, result::INVALID_X)?;
+    require(i64::from(item.y).abs() <= MAX_Y, result::INVALID_Y)?;
+    require(finite(item.z), result::INVALID_Z)
+}
+
+fn jump_target(bits: u32, standing: &Standing, fault: Fault) -> bool {
+    let itself_fits = fault.is(Fault::JumpToItself);
+    whole(bits).is_some_and(|target| {
+        (0..i64::from(standing.count)).contains(&target)
+            && (itself_fits || target != i64::from(standing.number))
+    })
+}
+
+fn heading(bits: u32, fault: Fault) -> bool {
+    let value = f32::from_bits(bits);
+    if value.is_nan() {
+        return fault.is(Fault::NanHeading);
+    }
+    at_least_zero(bits, fault) && value <= 360.0
+}
+
+/// Neither infinite nor NaN.
+fn finite(bits: u32) -> bool {
+    (bits >> 23) & 0xFF != 0xFF
+}
+
+/// Minus zero is 0.
+fn at_least_zero(bits: u32, fault: Fault) -> bool {
+    let refused_zero = fault.is(Fault::MinusZero) && bits == 1 << 31;
+    f32::from_bits(bits) >= 0.0 && !refused_zero
+}
+
+fn whole_within(bits: u32, least: i64, most: i64) -> bool {
+    whole(bits).is_some_and(|value| (least..=most).contains(&value))
+}
+
+/// The whole number that a 32-bit float is exactly, if it is one. Numbers of
+/// 2^62 and more, either way, are given as 2^62, beyond every limit here.
+pub fn whole(bits: u32) -> Option<i64> {
+    let exponent = ((bits >> 23) & 0xFF) as i32 - 127;
+    let fraction = i64::from(bits & 0x7F_FFFF);
+    if bits & 0x7FFF_FFFF == 0 {
+        return Some(0);
+    }
+    if !finite(bits) || exponent < 0 {
+        return None;
+    }
+    let significand = fraction | (1 << 23);
+    let size = if exponent >= 62 {
+        1 << 62
+    } else if exponent >= 23 {
+        significand << (exponent - 23)
+    } else {
+        let below_one = (1 << (23 - exponent)) - 1;
+        if significand & below_one != 0 {
+            return None;
+        }
+        significand >> (23 - exponent)
+    };
+    Some(if bits >> 31 == 1 { -size } else { size })
+}
+
+#[cfg(test)]
+mod tests {
+    use super::*;
+
+    fn item(command: u16) -> Item {
+        Item { command, frame: 3, ..Item::default() }
+    }
+
+    fn standing(kind: usize) -> Standing {
+        Standing { kind, number: 1, count: 4, jumps_before: 0 }
+    }
+
+    fn verdict(item: &Item, kind: usize) -> u8 {
+        judge(item, &standing(kind), Fault::None).err().unwrap_or(0)
+    }
+
+    fn with_params(command: u16, first: f32, second: f32) -> Item {
+        Item { params: [first.to_bits(), second.to_bits(), 0, 0], ..item(command) }
+    }
+
+    #[test]
+    fn whole_numbers_are_exact() {
+        assert_eq!(whole(0), Some(0));
+        assert_eq!(whole(0x8000_0000), Some(0));
+        assert_eq!(whole(1), None);
+        assert_eq!(whole(0x0080_0000), None);
+        for value in [1i64, -1, 3, 64, 500, 2500, 32767, -32768, 8388607, 16777216, 1 << 40] {
+            assert_eq!(whole((value as f32).to_bits()), Some(value));
+        }
+        for value in [0.5f32, 1.5, -0.25, 8388607.5, 2.9999998, f32::NAN, f32::INFINITY] {
+            assert_eq!(whole(value.to_bits()), None);
+        }
+        assert_eq!(whole(f32::MAX.to_bits()), Some(1 << 62));
+        assert_eq!(whole(f32::MIN.to_bits()), Some(-(1 << 62)));
+    }
+
+    #[test]
+    fn commands_and_kinds() {
+        let flight = [16, 17, 18, 19, 20, 21, 22, 31, 112, 114, 115, 178];
+        for command in 0..=u16::MAX {
+            let listed = flight.contains(&command) || [177, 183].contains(&command);
+            let known = verdict(&item(command), FLIGHT) != result::UNSUPPORTED;
+            assert_eq!(listed, known, "{command}");
+            let fence = verdict(&item(command), FENCE) != result::UNSUPPORTED;
+            assert_eq!((5000..=5004).contains(&command), fence, "{command}");
+            let rally = verdict(&item(command), RALLY) != result::UNSUPPORTED;
+            assert_eq!(command == 5100, rally, "{command}");
+        }
+        for command in flight {
+            assert_eq!(verdict(&item(command), FLIGHT), 0);
+        }
+    }
+
+    #[test]
+    fn frames() {
+        for frame in 0..=255 {
+            let positional = [0, 3, 5, 6, 10, 11].contains(&frame);
+            let at = |command| Item { frame, ..item(command) };
+            let expected = if positional { 0 } else { 2 };
+            assert_eq!(verdict(&at(16), FLIGHT), expected);
+            assert_eq!(verdict(&at(5100), RALLY), expected);
+            let expected = if positional || frame == 2 { 0 } else { 2 };
+            assert_eq!(verdict(&at(112), FLIGHT), expected);
+        }
+    }
+
+    #[test]
+    fn amounts() {
+        for command in [16, 18, 19, 112, 114] {
+            let first = |value| verdict(&with_params(command, value, 0.0), FLIGHT);
+            assert_eq!(first(-0.0), 0);
+            assert_eq!(first(f32::MAX), 0);
+            assert_eq!(first(f32::from_bits(1)), 0);
+            for bad in [f32::from_bits(0x8000_0001), -1.0, f32::NAN, f32::INFINITY] {
+                assert_eq!(first(bad), 6);
+            }
+        }
+        let heading = |value| verdict(&with_params(115, value, 0.0), FLIGHT);
+        assert_eq!(heading(360.0), 0);
+        assert_eq!(heading(-0.0), 0);
+        for bad in [f32::from_bits(0x43B4_0001), f32::NAN, f32::INFINITY, -1.0] {
+            assert_eq!(heading(bad), 6);
+        }
+        let radius = |value| verdict(&with_params(5003, value, 0.0), FENCE);
+        assert_eq!(radius(f32::from_bits(1)), 0);
+        for bad in [0.0, -0.0, f32::NAN, f32::INFINITY, -1.0] {
+            assert_eq!(radius(bad), 6);
+        }
+        let speed = |value| verdict(&with_params(178, f32::NAN, value), FLIGHT);
+        assert_eq!(speed(-1.0), 0);
+        assert_eq!(speed(f32::NAN), 7);
+    }
+
+    #[test]
+    fn jumps() {
+        let jump = |first, second| verdict(&with_params(177, first, second), FLIGHT);
+        assert_eq!(jump(0.0, -1.0), 0);
+        assert_eq!(jump(-0.0, -0.0), 0);
+        assert_eq!(jump(3.0, 32767.0), 0);
+        for bad in [1.0, 4.0, -1.0, 0.5, f32::NAN, f32::INFINITY] {
+            assert_eq!(jump(bad, f32::NAN), 6);
+        }
+        for bad in [-2.0, 32768.0, 0.5, f32::NAN] {
+            assert_eq!(jump(0.0, bad), 7);
+        }
+        let sixteenth = Standing { jumps_before: 15, ..standing(FLIGHT) };
+        let good = with_params(177, 0.0, 0.0);
+        assert_eq!(judge(&good, &sixteenth, Fault::None), Err(4));
+        let bad = with_params(177, 1.0, 0.0);
+        assert_eq!(judge(&bad, &sixteenth, Fault::None), Err(6));
+        assert_eq!(judge(&item(16), &sixteenth, Fault::None), Ok(()));
+    }
+
+    #[test]
+    fn servos_and_vertices() {
+        let servo = |first, second| verdict(&with_params(183, first, second), FLIGHT);
+        assert_eq!(servo(1.0, 500.0), 0);
+        assert_eq!(servo(16.0, 2500.0), 0);
+        for bad in [0.0, 17.0, 1.5] {
+            assert_eq!(servo(bad, 0.0), 6);
+        }
+        for bad in [499.0, 2501.0, 1000.5] {
+            assert_eq!(servo(1.0, bad), 7);
+        }
+        for command in [5001, 5002] {
+            let vertex = |value| verdict(&with_params(command, value, 0.0), FENCE);
+            assert_eq!((vertex(3.0), vertex(64.0)), (0, 0));
+            assert_eq!((vertex(2.0), vertex(65.0), vertex(3.5)), (6, 6, 6));
+        }
+    }
+
+    #[test]
+    fn positions() {
+        let x = |x| verdict(&Item { x, ..item(16) }, FLIGHT);
+        assert_eq!((x(900_000_000), x(-900_000_000)), (0, 0));
+        assert_eq!((x(900_000_001), x(-900_000_001), x(i32::MIN)), (10, 10, 10));
+        let y = |y| verdict(&Item { y, ..item(5100) }, RALLY);
+        assert_eq!((y(1_800_000_000), y(-1_800_000_000)), (0, 0));
+        assert_eq!((y(1_800_000_001), y(-1_800_000_001), y(i32::MIN)), (11, 11, 11));
+        let z = |z: f32| verdict(&Item { z: z.to_bits(), ..item(20) }, FLIGHT);
+        assert_eq!((z(f32::MAX), z(f32::NAN), z(f32::INFINITY)), (0, 12, 12));
+        let unchecked = Item { x: i32::MAX, y: i32::MIN, z: u32::MAX, ..item(112) };
+        assert_eq!(verdict(&unchecked, FLIGHT), 0);
+    }
+
+    #[test]
+    fn param_4_nan_is_valid() {
+        let mut waypoint = item(16);
+        waypoint.params[3] = f32::NAN.to_bits();
+        assert_eq!(verdict(&waypoint, FLIGHT), 0);
+    }
+
+    #[test]
+    fn order_of_checks() {
+        let mut bad = Item { frame: 1, x: i32::MAX, y: i32::MAX, z: u32::MAX, ..item(30) };
+        bad.params[0] = u32::MAX;
+        let mut results = vec![verdict(&bad, FLIGHT)];
+        bad.command = 16;
+        results.push(verdict(&bad, FLIGHT));
+        bad.frame = 0;
+        results.push(verdict(&bad, FLIGHT));
+        bad.params[0] = 0;
+        results.push(verdict(&bad, FLIGHT));
+        bad.x = 0;
+        results.push(verdict(&bad, FLIGHT));
+        bad.y = 0;
+        results.push(verdict(&bad, FLIGHT));
+        bad.z = 0;
+        results.push(verdict(&bad, FLIGHT));
+        assert_eq!(results, [3, 2, 6, 10, 11, 12, 0]);
+    }
+}

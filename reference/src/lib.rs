@@ -1,0 +1,17 @@
+//! The drone's mission service, written a second time from its rules, and the
+//! programs that compare it with another implementation by call scripts.
+
+pub mod compare;
+pub mod fault;
+pub mod fence;
+pub mod generate;
+pub mod items;
+pub mod layout;
+pub mod limits;
+pub mod random;
+pub mod script;
+pub mod search;
+pub mod service;
+pub mod speed;
+pub mod state;
+pub mod store;

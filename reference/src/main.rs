@@ -1,0 +1,171 @@
+//! Commands of the reference: play, generate, compare, faults, selftest-faults
+//! and speed.
+
+use std::collections::HashMap;
+use std::fs::File;
+use std::io::{self, BufReader, BufWriter, Write};
+use std::path::Path;
+use std::process::ExitCode;
+use std::str::FromStr;
+
+use reference::compare::{compare, find_faults, Verdict};
+use reference::fault::{Fault, FAULTS};
+use reference::generate::{scripts, Script};
+use reference::script::play;
+use reference::speed;
+
+const USAGE: &str = "\
+reference play                                          script on standard input, lines on standard output
+reference generate --seed N --calls M [--out FILE]      the list as one script
+reference compare --seed N --calls M --console PATH [--fault F] [--out FILE]
+                                                        with the program at PATH; FILE gets a script that differs
+reference faults                                        the faults that --fault plants
+reference selftest-faults --seed N --calls M            finds every fault, without another program
+reference speed --calls M [--console PATH]              times both on one script";
+
+/// Exit status for a difference, and for what cannot be done.
+const DIFFERENT: u8 = 1;
+const FAILED: u8 = 2;
+
+type Answer = Result<ExitCode, String>;
+
+fn main() -> ExitCode {
+    let arguments: Vec<String> = std::env::args().skip(1).collect();
+    let answer = match arguments.split_first() {
+        Some((command, rest)) => Options::read(rest).and_then(|options| run(command, &options)),
+        None => Err(USAGE.to_string()),
+    };
+    answer.unwrap_or_else(|message| {
+        eprintln!("{message}");
+        ExitCode::from(FAILED)
+    })
+}
+
+fn run(command: &str, options: &Options) -> Answer {
+    match command {
+        "play" => play_standard_input(),
+        "generate" => generate(options),
+        "compare" => compare_with(options),
+        "faults" => list_faults(),
+        "selftest-faults" => selftest_faults(options),
+        "speed" => measure_speed(options),
+        _ => Err(USAGE.to_string()),
+    }
+}
+
+/// Options of the form `--name value`.
+struct Options(HashMap<String, String>);
+
+impl Options {
+    fn read(arguments: &[String]) -> Result<Options, String> {
+        let mut options = HashMap::new();
+        for pair in arguments.chunks(2) {
+            match pair {
+                [name, value] if name.starts_with("--") => {
+                    options.insert(name[2..].to_string(), value.clone());
+                }
+                _ => return Err(USAGE.to_string()),
+            }
+        }
+        Ok(Options(options))
+    }
+
+    fn text(&self, name: &str) -> Option<&str> {
+        self.0.get(name).map(String::as_str)
+    }
+
+    fn number<T: FromStr>(&self, name: &str) -> Result<T, String> {
+        let text = self.text(name).ok_or(format!("--{name} is missing\n{USAGE}"))?;
+        text.parse().map_err(|_| format!("--{name} {text}: not a number"))
+    }
+}
+
+fn failed(error: io::Error) -> String {
+    error.to_string()
+}
+
+fn play_standard_input() -> Answer {
+    let mut input = BufReader::with_capacity(1 << 16, io::stdin().lock());
+    let mut output = BufWriter::with_capacity(1 << 16, io::stdout().lock());
+    play(&mut input, &mut output, Fault::None).map_err(failed)?;
+    Ok(ExitCode::SUCCESS)
+}
+
+fn generate(options: &Options) -> Answer {
+    let (seed, calls) = (options.number("seed")?, options.number("calls")?);
+    let bytes = Script::joined(scripts(seed, calls)).bytes();
+    match options.text("out") {
+        None => io::stdout().write_all(&bytes).map_err(failed)?,
+        Some(file) => write_file(file, &bytes)?,
+    }
+    Ok(ExitCode::SUCCESS)
+}
+
+fn write_file(name: &str, bytes: &[u8]) -> Result<(), String> {
+    let write = File::create(name).and_then(|mut file| file.write_all(bytes));
+    write.map_err(|error| format!("{name}: {error}"))
+}
+
+fn compare_with(options: &Options) -> Answer {
+    let (seed, calls): (u64, usize) = (options.number("seed")?, options.number("calls")?);
+    let console = options.text("console").ok_or("--console is missing")?;
+    let fault = match options.text("fault") {
+        None => Fault::None,
+        Some(name) => Fault::named(name).ok_or(format!("no fault {name}"))?,
+    };
+    match compare(seed, calls, Path::new(console), fault).map_err(failed)? {
+        Verdict::Agree { lines } => {
+            println!("seed {seed}: {calls} calls, {lines} lines agree");
+            Ok(ExitCode::SUCCESS)
+        }
+        Verdict::Differ { number, script, difference } => {
+            println!("seed {seed}, script {number}: {difference}");
+            if let Some(file) = options.text("out") {
+                write_file(file, &script.bytes())?;
+            }
+            Ok(ExitCode::from(DIFFERENT))
+        }
+    }
+}
+
+fn list_faults() -> Answer {
+    for (_, name, what) in FAULTS {
+        println!("{name:22} {what}");
+    }
+    Ok(ExitCode::SUCCESS)
+}
+
+fn selftest_faults(options: &Options) -> Answer {
+    let found = find_faults(options.number("seed")?, options.number("calls")?);
+    let mut missed = 0;
+    for (name, calls) in &found {
+        match calls {
+            Some(calls) => println!("{name:22} found after {calls} calls"),
+            None => {
+                missed += 1;
+                println!("{name:22} NOT FOUND");
+            }
+        }
+    }
+    println!("{} faults, {missed} not found", found.len());
+    Ok(if missed == 0 { ExitCode::SUCCESS } else { ExitCode::from(DIFFERENT) })
+}
+
+fn measure_speed(options: &Options) -> Answer {
+    let calls = options.number("calls")?;
+    let console = options.text("console").map(Path::new);
+    let speed = speed::measure(calls, console).map_err(failed)?;
+    let own = speed.own.as_secs_f64();
+    println!("reference: {calls} calls in {own:.3} s");
+    let Some((taken, same)) = speed.console else {
+        return Ok(ExitCode::SUCCESS);
+    };
+    let taken = taken.as_secs_f64();
+    println!("console:   {calls} calls in {taken:.3} s");
+    println!("ratio:     {:.2} (console / reference)", taken / own);
+    if same {
+        return Ok(ExitCode::SUCCESS);
+    }
+    println!("the lines differ");
+    Ok(ExitCode::from(DIFFERENT))
+}

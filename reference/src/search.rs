@@ -1,0 +1,171 @@
+//! Choosing the next command of the flight plan, with jumps.
+
+use crate::fault::Fault;
+use crate::items::{judge, whole, Standing, DO_JUMP};
+use crate::layout::Item;
+use crate::limits::*;
+use crate::state::State;
+use crate::store::Shelf;
+
+/// The answer to "command done". The first number is the item's; amounts are
+/// bit patterns of 32-bit floats.
+#[derive(Clone, Copy, Debug, PartialEq, Eq)]
+pub enum Command {
+    Fly(u16),
+    Wait(u16, u32),
+    Near(u16, u32),
+    Turn(u16, u32),
+    Speed(u16, u32),
+    Servo(u16, i64, i64),
+    Finished,
+    Stuck,
+}
+
+/// Answers the next command and moves the state on to it. Finished and Stuck
+/// leave the state unchanged.
+pub fn next_command(state: &mut State, store: &[u8], fault: Fault) -> Command {
+    let length = state.plans[FLIGHT].length;
+    let shelf = Shelf { kind: FLIGHT, half: state.plans[FLIGHT].half };
+    let mut jump_counts = state.jump_counts;
+    let mut followed = 0;
+    let mut at = state.current + u16::from(state.begun);
+    while at < length {
+        let item = shelf.item(store, at);
+        let is_jump = item.command == DO_JUMP;
+        let jumps_before = if is_jump { shelf.jumps_before(store, at) } else { 0 };
+        let standing = Standing { kind: FLIGHT, number: at, count: length, jumps_before };
+        let trusted = fault.is(Fault::SearchTrusts) && !is_jump;
+        if !trusted && judge(&item, &standing, fault).is_err() {
+            return Command::Stuck;
+        }
+        if !is_jump {
+            state.current = at;
+            state.begun = true;
+            state.jump_counts = jump_counts;
+            return command_of(&item, at);
+        }
+        let (target, repeat) = jump_of(&item);
+        let runs = jump_counts.get_mut(jumps_before);
+        let Some(runs) = runs else { return Command::Stuck };
+        if repeat != -1 && i64::from(*runs) >= repeat {
+            at += 1;
+            followed += u32::from(fault.is(Fault::PassedCounted));
+            continue;
+        }
+        if followed >= MAX_FOLLOWED + u32::from(fault.is(Fault::Follow65)) {
+            if fault.is(Fault::StuckKeepsCounts) {
+                state.jump_counts = jump_counts;
+            }
+            return Command::Stuck;
+        }
+        followed += 1;
+        *runs += u16::from(repeat != -1);
+        at = target;
+    }
+    Command::Finished
+}
+
+/// Target and repeat of a valid jump.
+fn jump_of(item: &Item) -> (u16, i64) {
+    let target = whole(item.params[0]).unwrap_or(0) as u16;
+    let repeat = whole(item.params[1]).unwrap_or(0);
+    (target, repeat)
+}
+
+/// The answer for a valid item that is no jump.
+fn command_of(item: &Item, number: u16) -> Command {
+    let [first, second, _, _] = item.params;
+    match item.command {
+        112 => Command::Wait(number, first),
+        114 => Command::Near(number, first),
+        115 => Command::Turn(number, first),
+        178 => Command::Speed(number, second),
+        183 => Command::Servo(number, whole(first).unwrap_or(0), whole(second).unwrap_or(0)),
+        _ => Command::Fly(number),
+    }
+}
+
+#[cfg(test)]
+mod tests {
+    use super::*;
+
+    fn nav(command: u16) -> Item {
+        Item { command, frame: 3, ..Item::default() }
+    }
+
+    fn pair(command: u16, first: f32, second: f32) -> Item {
+        Item { params: [first.to_bits(), second.to_bits(), 0, 0], ..nav(command) }
+    }
+
+    fn planned(items: &[Item]) -> (State, Vec<u8>) {
+        let mut store = vec![0; STORE_BYTES];
+        let shelf = Shelf { kind: FLIGHT, half: 0 };
+        for (index, item) in items.iter().enumerate() {
+            shelf.put(&mut store, index as u16, &item.to_bytes());
+        }
+        let mut state = State::fresh();
+        state.plans[FLIGHT].length = items.len() as u16;
+        (state, store)
+    }
+
+    fn answers(items: &[Item], calls: usize) -> Vec<Command> {
+        let (mut state, store) = planned(items);
+        (0..calls).map(|_| next_command(&mut state, &store, Fault::None)).collect()
+    }
+
+    #[test]
+    fn takeoff_waypoint_jump_twice_land() {
+        let items = [nav(22), nav(16), pair(177, 1.0, 2.0), nav(21)];
+        let fly = [0, 1, 1, 1, 3].map(Command::Fly);
+        let answers = answers(&items, 7);
+        assert_eq!(answers[..5], fly);
+        assert_eq!(answers[5..], [Command::Finished; 2]);
+    }
+
+    #[test]
+    fn jumps_followed() {
+        for (repeat, answer) in [(31.0, Command::Fly(2)), (32.0, Command::Stuck)] {
+            let items = [pair(177, 1.0, -1.0), pair(177, 0.0, repeat), nav(16)];
+            let (mut state, store) = planned(&items);
+            assert_eq!(next_command(&mut state, &store, Fault::None), answer);
+            let counts = if answer == Command::Stuck { 0 } else { 31 };
+            assert_eq!(state.jump_counts[1], counts);
+            assert_eq!(state.begun, answer != Command::Stuck);
+        }
+    }
+
+    #[test]
+    fn kinds_of_answer() {
+        let items = [
+            pair(112, 5.0, 0.0),
+            pair(114, -0.0, 0.0),
+            pair(115, 360.0, 0.0),
+            pair(178, 0.0, -2.5),
+            pair(183, 16.0, 1500.0),
+        ];
+        let expected = [
+            Command::Wait(0, 5.0f32.to_bits()),
+            Command::Near(1, 0x8000_0000),
+            Command::Turn(2, 360.0f32.to_bits()),
+            Command::Speed(3, (-2.5f32).to_bits()),
+            Command::Servo(4, 16, 1500),
+            Command::Finished,
+        ];
+        assert_eq!(answers(&items, 6), expected);
+    }
+
+    #[test]
+    fn items_that_a_host_wrote() {
+        assert_eq!(answers(&[nav(30)], 1), [Command::Stuck]);
+        assert_eq!(answers(&[pair(177, 0.0, 0.0)], 1), [Command::Stuck]);
+        assert_eq!(answers(&[pair(177, 1.0, 0.0)], 1), [Command::Stuck]);
+        let mut jumps = vec![pair(177, 20.0, 0.0); 15];
+        jumps.extend([nav(16), pair(177, 20.0, 0.0), nav(16), nav(16), nav(16), nav(16)]);
+        assert_eq!(answers(&jumps, 2), [Command::Fly(15), Command::Stuck]);
+    }
+
+    #[test]
+    fn an_empty_plan_is_finished() {
+        assert_eq!(answers(&[], 1), [Command::Finished]);
+    }
+}

@@ -1,0 +1,438 @@
+//! The service's three calls: message, timer and "command done".
+
+use std::ops::Range;
+
+use crate::fault::{kind_from_last_byte, Fault};
+use crate::fence::fence_fits;
+use crate::items::{judge, result, Standing, DO_JUMP};
+use crate::layout::{Address, Item, Message, READ_IDS, TEXT_BYTES};
+use crate::limits::*;
+use crate::search::{next_command, Command};
+use crate::state::{Plan, State, Upload};
+use crate::store::Shelf;
+
+/// Outcomes of a call.
+pub mod outcome {
+    pub const REPLY: u8 = 0;
+    pub const NO_REPLY: u8 = 1;
+    pub const SHORT_BUFFER: u8 = 10;
+    pub const EMPTY_PAYLOAD: u8 = 11;
+    pub const NOT_READ: u8 = 12;
+    pub const NOT_FOR_US: u8 = 13;
+    pub const SHORT_STORE: u8 = 14;
+    pub const OUT_OF_RANGE: u8 = 15;
+}
+
+const NO_SUCH_ITEM: &[u8] = b"no such mission item";
+const SEVERITY_WARNING: u8 = 4;
+
+/// What a message call is handed beside state, store and buffer.
+#[derive(Clone, Copy, Debug)]
+pub struct MessageCall<'a> {
+    pub own: Address,
+    pub sender: Address,
+    pub id: u32,
+    pub payload: &'a [u8],
+    pub clock: u32,
+}
+
+/// What a message or timer call returns.
+#[derive(Clone, Copy, Debug, Default, PartialEq, Eq)]
+pub struct Returned {
+    pub outcome: u8,
+    pub id: u32,
+    pub len: usize,
+}
+
+fn without_reply(outcome: u8) -> Returned {
+    Returned { outcome, id: 0, len: 0 }
+}
+
+/// An ACK that is not for an accepted upload.
+fn ack(to: Address, result: u8, kind: u8) -> Message {
+    Message::Ack { to, result, kind, number: 0 }
+}
+
+/// The service: its state, and a planted fault if any.
+#[derive(Clone, Debug)]
+pub struct Service {
+    pub state: State,
+    pub fault: Fault,
+}
+
+impl Service {
+    pub fn fresh(fault: Fault) -> Service {
+        Service { state: State::fresh(), fault }
+    }
+
+    pub fn message(&mut self, call: &MessageCall, store: &mut [u8], reply: &mut [u8]) -> Returned {
+        if let Err(refusal) = self.refuse(store.len(), reply.len()) {
+            return without_reply(refusal);
+        }
+        if call.payload.is_empty() {
+            return without_reply(outcome::EMPTY_PAYLOAD);
+        }
+        let Some(message) = self.read(call.id, call.payload) else {
+            return without_reply(outcome::NOT_READ);
+        };
+        if !self.for_us(call.own, message.to()) {
+            return without_reply(outcome::NOT_FOR_US);
+        }
+        let answer = self.answer(call, &message, store);
+        self.write(answer, reply)
+    }
+
+    pub fn timer(&mut self, kind: u8, clock: u32, store: &[u8], reply: &mut [u8]) -> Returned {
+        if let Err(refusal) = self.refuse(store.len(), reply.len()) {
+            return without_reply(refusal);
+        }
+        if usize::from(kind) >= KINDS {
+            return without_reply(outcome::NOT_READ);
+        }
+        let answer = self.expiry(kind, clock);
+        self.write(answer, reply)
+    }
+
+    pub fn done(&mut self, store: &[u8]) -> (u8, Command) {
+        match self.refuse(store.len(), REPLY_BYTES) {
+            Err(refusal) => (refusal, Command::Stuck),
+            Ok(()) => (outcome::NO_REPLY, next_command(&mut self.state, store, self.fault)),
+        }
+    }
+
+    /// The refusals 14, 15 and 10, in this order.
+    fn refuse(&self, store_len: usize, reply_len: usize) -> Result<(), u8> {
+        let short_buffer = reply_len < REPLY_BYTES;
+        if store_len < STORE_BYTES {
+            Err(outcome::SHORT_STORE)
+        } else if short_buffer && self.fault.is(Fault::BufferBeforeRange) {
+            Err(outcome::SHORT_BUFFER)
+        } else if !self.state.in_range() {
+            Err(outcome::OUT_OF_RANGE)
+        } else if short_buffer {
+            Err(outcome::SHORT_BUFFER)
+        } else {
+            Ok(())
+        }
+    }
+
+    fn read(&self, id: u32, payload: &[u8]) -> Option<Message> {
+        let id = if self.fault.is(Fault::IdLowByte) { id & 0xFF } else { id };
+        if !READ_IDS.contains(&id) {
+            return None;
+        }
+        if self.fault.is(Fault::ShortKindLastByte) {
+            return Message::read(id, &kind_from_last_byte(id, payload));
+        }
+        Message::read(id, payload)
+    }
+
+    fn for_us(&self, own: Address, to: Address) -> bool {
+        let system = to.system == own.system || to.system == 0;
+        let component = to.component == own.component || to.component == 0;
+        system && (component || self.fault.is(Fault::ComponentIgnored))
+    }
+
+    /// Writes the answer, if any, into the front of the reply buffer.
+    fn write(&self, answer: Option<Message>, reply: &mut [u8]) -> Returned {
+        let Some(message) = answer else {
+            return without_reply(outcome::NO_REPLY);
+        };
+        let payload = message.write();
+        let untrimmed = self.fault.is(Fault::NotTrimmed);
+        let bytes = if untrimmed { payload.full() } else { payload.trimmed() };
+        reply[..bytes.len()].copy_from_slice(bytes);
+        Returned { outcome: outcome::REPLY, id: message.id(), len: bytes.len() }
+    }
+
+    /// What each message does. Kind comes first, except in SET_CURRENT, which
+    /// has none, and ACK, which never gets a reply.
+    fn answer(
+        &mut self,
+        call: &MessageCall,
+        message: &Message,
+        store: &mut [u8],
+    ) -> Option<Message> {
+        let sender = call.sender;
+        match *message {
+            Message::SetCurrent { seq, .. } => Some(self.set_current(seq)),
+            Message::Ack { result, kind, .. } => self.acknowledged(sender, result, kind),
+            Message::ClearAll { kind: ALL_KINDS, .. } => {
+                Some(self.clear(sender, 0..KINDS, ALL_KINDS))
+            }
+            Message::ClearAll { kind, .. }
+            | Message::RequestList { kind, .. }
+            | Message::RequestInt { kind, .. }
+            | Message::Count { kind, .. }
+            | Message::ItemInt(Item { kind, .. })
+                if usize::from(kind) >= KINDS =>
+            {
+                Some(ack(sender, result::UNSUPPORTED, kind))
+            }
+            Message::ClearAll { kind, .. } => {
+                let covered = usize::from(kind);
+                Some(self.clear(sender, covered..covered + 1, kind))
+            }
+            Message::RequestList { kind, .. } => Some(self.request_list(sender, kind)),
+            Message::RequestInt { seq, kind, .. } => {
+                Some(self.request_int(sender, seq, kind, store))
+            }
+            Message::Count { count, kind, .. } => Some(self.count(sender, count, kind, call.clock)),
+            Message::ItemInt(item) => Some(self.item_int(sender, item, call.clock, store)),
+            Message::Current { .. } | Message::StatusText { .. } => None,
+        }
+    }
+
+    fn plan(&mut self, kind: u8) -> &mut Plan {
+        &mut self.state.plans[usize::from(kind)]
+    }
+
+    fn count(&mut self, sender: Address, count: u16, kind: u8, clock: u32) -> Message {
+        let fault = self.fault;
+        let above = count > PLAN_SIZE[usize::from(kind)];
+        let plan = self.plan(kind);
+        if plan.upload.is_some_and(|upload| upload.station != sender) {
+            let misread = above && fault.is(Fault::CountForeignSpace);
+            let result = if misread { result::NO_SPACE } else { result::DENIED };
+            return ack(sender, result, kind);
+        }
+        if above && fault.is(Fault::CountKeepsUpload) {
+            return ack(sender, result::NO_SPACE, kind);
+        }
+        plan.upload = None;
+        if above {
+            return ack(sender, result::NO_SPACE, kind);
+        }
+        if count == 0 {
+            self.empty(usize::from(kind));
+            return ack(sender, result::ACCEPTED, kind);
+        }
+        plan.upload = Some(Upload { station: sender, count, next: 0, start: clock, repeats: 0 });
+        if fault.is(Fault::ClearAtCount) {
+            self.empty(usize::from(kind));
+        }
+        Message::RequestInt { seq: 0, to: sender, kind }
+    }
+
+    fn item_int(&mut self, sender: Address, item: Item, clock: u32, store: &mut [u8]) -> Message {
+        let kind = item.kind;
+        let Some(upload) = self.plan(kind).upload else {
+            return ack(sender, result::INVALID_SEQUENCE, kind);
+        };
+        if upload.station != sender {
+            return ack(sender, result::DENIED, kind);
+        }
+        let verdict = self.judge_upload_item(&item, &upload, store);
+        let judged_first = self.fault.is(Fault::JudgedBeforeNumber) && verdict.is_err();
+        if item.seq != upload.next && !judged_first {
+            return self.unexpected_item(&item, &upload, clock);
+        }
+        if let Err(reason) = verdict {
+            self.plan(kind).upload = None;
+            self.use_free_bytes(usize::from(kind), upload.next, store);
+            return ack(sender, reason, kind);
+        }
+        self.take(item, upload, clock, store)
+    }
+
+    /// The place of an item that was not taken into a plan is free.
+    fn use_free_bytes(&self, kind: usize, index: u16, store: &mut [u8]) {
+        if self.fault.is(Fault::FreeBytes) {
+            let shelf = Shelf { kind, half: self.state.plans[kind].other_half() };
+            shelf.put(store, index, &[0x5A; ITEM_BYTES]);
+        }
+    }
+
+    /// The verdict on an item as the upload's next one.
+    fn judge_upload_item(&self, item: &Item, upload: &Upload, store: &[u8]) -> Result<(), u8> {
+        let kind = usize::from(item.kind);
+        let shelf = Shelf { kind, half: self.state.plans[kind].other_half() };
+        let is_jump = item.command == DO_JUMP;
+        let jumps_before = if is_jump { shelf.jumps_before(store, upload.next) } else { 0 };
+        let standing = Standing { kind, number: item.seq, count: upload.count, jumps_before };
+        judge(item, &standing, self.fault)
+    }
+
+    /// Drops an item and requests the expected one again.
+    fn unexpected_item(&mut self, item: &Item, upload: &Upload, clock: u32) -> Message {
+        let fault = self.fault;
+        let plan = self.plan(item.kind);
+        if fault.is(Fault::RepeatEnds) && item.seq < upload.next {
+            plan.upload = None;
+            return ack(upload.station, result::INVALID_SEQUENCE, item.kind);
+        }
+        if fault.is(Fault::WrongItemRestarts) {
+            plan.upload = Some(Upload { start: clock, ..*upload });
+        }
+        Message::RequestInt { seq: upload.next, to: upload.station, kind: item.kind }
+    }
+
+    /// Stores the expected, valid item and requests the next one, or replaces
+    /// the plan after the last.
+    fn take(&mut self, item: Item, upload: Upload, clock: u32, store: &mut [u8]) -> Message {
+        let kind = usize::from(item.kind);
+        let shelf = Shelf { kind, half: self.state.plans[kind].other_half() };
+        shelf.put(store, upload.next, &self.stored(item).to_bytes());
+        let next = upload.next + 1;
+        if next < upload.count {
+            let repeats = if self.fault.is(Fault::RepeatsKept) { upload.repeats } else { 0 };
+            let taken = Upload { next, start: clock, repeats, ..upload };
+            self.plan(item.kind).upload = Some(taken);
+            return Message::RequestInt { seq: next, to: upload.station, kind: item.kind };
+        }
+        self.plan(item.kind).upload = None;
+        if kind == FENCE && !self.uploaded_fence_fits(shelf, upload.count, store) {
+            self.use_free_bytes(kind, upload.next, store);
+            return ack(upload.station, result::INVALID, item.kind);
+        }
+        let number = self.replace(kind, upload.count);
+        Message::Ack { to: upload.station, result: result::ACCEPTED, kind: item.kind, number }
+    }
+
+    /// The item as it is stored: system, component and current 0.
+    fn stored(&self, mut item: Item) -> Item {
+        if !self.fault.is(Fault::AddressKept) {
+            item.to = Address::default();
+        }
+        if !self.fault.is(Fault::CurrentKept) {
+            item.current = 0;
+        }
+        item
+    }
+
+    fn uploaded_fence_fits(&self, shelf: Shelf, count: u16, store: &[u8]) -> bool {
+        let items: Vec<Item> = (0..count).map(|index| shelf.item(store, index)).collect();
+        fence_fits(&items, self.fault)
+    }
+
+    /// Makes the uploaded items the plan and gives its new number.
+    fn replace(&mut self, kind: usize, length: u16) -> u32 {
+        let plan = &mut self.state.plans[kind];
+        plan.length = length;
+        if !self.fault.is(Fault::HalfNotSwitched) {
+            plan.half = plan.other_half();
+        }
+        plan.number = plan.number.wrapping_add(1);
+        if plan.number == 0 && !self.fault.is(Fault::NumberZero) {
+            plan.number = 1;
+        }
+        let number = plan.number;
+        if kind == FLIGHT {
+            self.state.restart_flight();
+        }
+        number
+    }
+
+    /// Empties a plan; its number and half stay.
+    fn empty(&mut self, kind: usize) {
+        let plan = &mut self.state.plans[kind];
+        plan.length = 0;
+        if self.fault.is(Fault::EmptySwitchesHalf) {
+            plan.half = plan.other_half();
+        }
+        if kind == FLIGHT || self.fault.is(Fault::FenceResetsFlight) {
+            self.state.restart_flight();
+        }
+    }
+
+    /// A nonzero ACK from the station that uploads its kind ends that upload.
+    fn acknowledged(&mut self, sender: Address, result: u8, kind: u8) -> Option<Message> {
+        let fault = self.fault;
+        if result != result::ACCEPTED {
+            for (index, plan) in self.state.plans.iter_mut().enumerate() {
+                let meant = index == usize::from(kind) || fault.is(Fault::AckEndsAll);
+                let anyone = fault.is(Fault::AckFromAnyone);
+                if meant && plan.upload.is_some_and(|u| u.station == sender || anyone) {
+                    plan.upload = None;
+                }
+            }
+        }
+        fault.is(Fault::AckAnswered).then(|| ack(sender, result::ACCEPTED, kind))
+    }
+
+    fn clear(&mut self, sender: Address, covered: Range<usize>, kind: u8) -> Message {
+        let foreign = |plan: &Plan| plan.upload.is_some_and(|u| u.station != sender);
+        let denied = self.state.plans[covered.clone()].iter().any(foreign);
+        let own_only = self.fault.is(Fault::ClearOwnOnly) && kind == ALL_KINDS;
+        if denied && !own_only {
+            return ack(sender, result::DENIED, kind);
+        }
+        for index in covered {
+            if !foreign(&self.state.plans[index]) {
+                self.state.plans[index].upload = None;
+                self.empty(index);
+            }
+        }
+        ack(sender, result::ACCEPTED, kind)
+    }
+
+    fn shown_number(&self, kind: usize) -> u32 {
+        let plan = &self.state.plans[kind];
+        if self.fault.is(Fault::EmptyShowsNumber) {
+            return plan.number;
+        }
+        plan.shown_number()
+    }
+
+    fn request_list(&self, sender: Address, kind: u8) -> Message {
+        let index = usize::from(kind);
+        let count = self.state.plans[index].length;
+        Message::Count { count, to: sender, kind, number: self.shown_number(index) }
+    }
+
+    /// The stored item as of now.
+    fn request_int(&self, sender: Address, seq: u16, kind: u8, store: &[u8]) -> Message {
+        let index = usize::from(kind);
+        let plan = &self.state.plans[index];
+        if seq >= plan.length {
+            return ack(sender, result::INVALID_SEQUENCE, kind);
+        }
+        let shelf = Shelf { kind: index, half: plan.half };
+        let current = u8::from(index == FLIGHT && seq == self.state.current);
+        Message::ItemInt(Item { to: sender, current, ..shelf.item(store, seq) })
+    }
+
+    fn set_current(&mut self, seq: u16) -> Message {
+        let total = self.state.plans[FLIGHT].length;
+        if seq >= total {
+            let mut text = [0; TEXT_BYTES];
+            text[..NO_SUCH_ITEM.len()].copy_from_slice(NO_SUCH_ITEM);
+            return Message::StatusText { severity: SEVERITY_WARNING, text, id: 0, chunk: 0 };
+        }
+        self.state.current = seq;
+        self.state.begun &= self.fault.is(Fault::SetCurrentBegun);
+        if self.fault.is(Fault::SetCurrentCounts) {
+            self.state.jump_counts = [0; MAX_JUMPS];
+        }
+        let numbers = [FLIGHT, FENCE, RALLY].map(|kind| self.shown_number(kind));
+        Message::Current { seq, total, state: 0, mode: 0, numbers }
+    }
+
+    /// A timer call: requests again, or gives the upload up.
+    fn expiry(&mut self, kind: u8, clock: u32) -> Option<Message> {
+        let fault = self.fault;
+        let plan = self.plan(kind);
+        let upload = plan.upload?;
+        if !expired(upload.start, clock, fault) {
+            return None;
+        }
+        if upload.repeats >= MAX_REPEATS - u8::from(fault.is(Fault::SixthAtFour)) {
+            plan.upload = None;
+            return Some(ack(upload.station, result::CANCELLED, kind));
+        }
+        let start = if fault.is(Fault::TimerNotRestarted) { upload.start } else { clock };
+        plan.upload = Some(Upload { start, repeats: upload.repeats + 1, ..upload });
+        Some(Message::RequestInt { seq: upload.next, to: upload.station, kind })
+    }
+}
+
+/// True if 250 ms or more have passed since `start`.
+fn expired(start: u32, now: u32, fault: Fault) -> bool {
+    if fault.is(Fault::ClockGreater) {
+        return now > start && now - start >= EXPIRY_MS;
+    }
+    let expiry = EXPIRY_MS - u32::from(fault.is(Fault::Expiry249));
+    let backward = BACKWARD_MS + u32::from(fault.is(Fault::BackwardLate));
+    let elapsed = now.wrapping_sub(start);
+    elapsed < backward && elapsed >= expiry
+}

@@ -1,0 +1,42 @@
+//! Scripts with the lines they must print, byte for byte, and scripts of any
+//! bytes, which are all answered.
+
+use reference::fault::Fault;
+use reference::generate::{scripts, Script};
+use reference::random::Random;
+use reference::script::play;
+
+#[test]
+fn d_edges() {
+    let script: &[u8] = include_bytes!("samples/d_edges.bin");
+    let expected = include_str!("samples/d_edges.exp");
+    let mut lines = Vec::new();
+    play(&mut &script[..], &mut lines, Fault::None).unwrap();
+    let lines = String::from_utf8(lines).unwrap();
+    for (number, (line, wanted)) in lines.lines().zip(expected.lines()).enumerate() {
+        assert_eq!(line, wanted, "line {}", number + 1);
+    }
+    assert_eq!(lines, expected);
+}
+
+#[test]
+fn any_input_is_answered() {
+    let mut random = Random::new(1);
+    for len in 0..2000 {
+        let bytes: Vec<u8> = (0..len % 100).map(|_| random.byte()).collect();
+        play(&mut &bytes[..], &mut Vec::new(), Fault::None).unwrap();
+    }
+}
+
+#[test]
+fn spoiled_scripts_are_answered() {
+    let mut random = Random::new(2);
+    for seed in 0..200 {
+        let mut bytes = Script::joined(scripts(seed, 100)).bytes();
+        for _ in 0..random.within(1, 20) {
+            let at = random.below(bytes.len());
+            bytes[at] = random.byte();
+        }
+        play(&mut &bytes[..], &mut Vec::new(), Fault::None).unwrap();
+    }
+}
