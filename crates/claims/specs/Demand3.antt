@@ -15,10 +15,10 @@ use Rattle.rules.specs.NextCommand.{Command}
 use Rattle.rules.specs.Calls.{Call, message, timer, done, announces, Heard, refuses, request, heard}
 use Rattle.rules.specs.Step.{Answer, refused, says, outcomeOf, replyId, replyBytes, commandIn, isRefused, Stepped, act, step, run, answers}
 use Rattle.refine.specs.Promise.{Result, Serves}
-use Rattle.claims.specs.Uploads.{shownBy, answerTo, hears, letIn, Open, Completes, Empties, Stroke}
-use Rattle.claims.specs.Rules.{never-out-of-range, only-strokes, takes-effect, empties-effect, lets-in, denies}
-use Rattle.claims.specs.Laws.Ranged.{Formed, fresh-formed, formed-ranged}
-use Rattle.claims.specs.Laws.Kept.{step-kept}
+use Rattle.call_lists.specs.Uploads.{shownBy, answerTo, hears, letIn, Open, Completes, Empties, Stroke}
+use Rattle.call_lists.specs.Rules.{never-out-of-range, only-strokes, takes-effect, empties-effect, lets-in, denies}
+use Rattle.call_lists.specs.Laws.Ranged.{Formed, fresh-formed, formed-ranged}
+use Rattle.call_lists.specs.Laws.Kept.{step-kept}
 
 -- how much of the store, and how long a reply buffer, a call is lent
 abbrev pub storeLent : Call → ℕ

@@ -5,4 +5,3 @@ pub mod Valid
 pub mod Meeting
 pub mod Finding
 pub mod Advanced
-pub mod Ranges

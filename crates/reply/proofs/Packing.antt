@@ -8,6 +8,7 @@ use lib.Dec.{T, ltb, leb, ltb→lt, leb→le}
 use lib.ListN.{length, getD}
 use Rattle.rules.specs.Payload.{Bytes, bytesOf}
 use Rattle.rules.specs.Layouts.{Field, chars, layoutOf, pack}
+use Rattle.rules.specs.Laws.Layout.{length-encode}
 use Rattle.rules.specs.Messages.{Message, setCurrent, current, requestList, count, clearAll, ack, requestInt, itemInt, statustext, unknown, idOf, encode}
 use Rattle.reply.specs.Written.{Written}
 
@@ -26,25 +27,11 @@ pack-chars (suc n) at (t ∷ ts) vs fs e h =
     let rest : pack (chars (suc at) n ++ fs) (ts ++ vs) ≡ ts ++ pack fs vs = pack-chars n (suc at) ts vs fs (omega arith) (λ i. h (suc i)) in
     λ i. first i ++ rest i
 
--- every message has its full length in bytes
-pub encode-full : (m : Message) → length (encode m) ≡ layoutOf (idOf m) .full
-unfolding encode layoutOf pack bytesOf
-encode-full (setCurrent to seq) = refl
-encode-full (current seq total state mode mission fence rally) = refl
-encode-full (requestList to kind) = refl
-encode-full (count to n kind planNumber) = refl
-encode-full (clearAll to kind) = refl
-encode-full (ack to result kind planNumber) = refl
-encode-full (requestInt to seq kind) = refl
-encode-full (itemInt to isCurrent item) = refl
-encode-full (statustext severity text id chunk) = refl
-encode-full unknown = refl
-
 -- what writing asks of a message's bytes and of a buffer of 54 bytes or more
 pub ready : (m : Message) (bs out : Bytes) → T (ltb 0 (layoutOf (idOf m) .full)) → T (leb (layoutOf (idOf m) .full) 54) → bs ≡ encode m → 54 ≤ length out
     → (length bs ≡ layoutOf (idOf m) .full) × ((0 < length bs) × (length bs ≤ length out))
 ready m bs out some most e h =
-    let full : length bs ≡ layoutOf (idOf m) .full = ap length e ∙ encode-full m in
+    let full : length bs ≡ layoutOf (idOf m) .full = ap length e ∙ length-encode m in
     let low : 0 < layoutOf (idOf m) .full = ltb→lt 0 (layoutOf (idOf m) .full) some in
     let high : layoutOf (idOf m) .full ≤ 54 = leb→le (layoutOf (idOf m) .full) 54 most in
     (full, (omega arith, omega arith))

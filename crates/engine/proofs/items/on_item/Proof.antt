@@ -11,7 +11,7 @@ use Rattle.plan.specs.declared.Plan.{Plan}
 use Rattle.plan.specs.declared.Run.{Run}
 use Rattle.plan.specs.Ranges.{uploadRanged}
 use Rattle.plan.specs.Writes.{putAt, length-stays}
-use Rattle.storage.specs.Kept.{length-itemOf}
+use Rattle.rules.specs.Laws.Layout.{length-itemOf}
 use Rattle.upload.specs.declared.Say.the-variants.{Ack, Ask}
 use Rattle.upload.specs.declared.Turned.{Turned}
 use Rattle.upload.specs.Turns.{ended, keeps, Took, took, stored, takesItem, itemTook}

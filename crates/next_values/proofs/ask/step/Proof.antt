@@ -31,7 +31,7 @@ next-requires : tie.Need-next-requires
 next-requires c κs =
     let a = c .before .before .before .before .before .args in
     let ranged = c .before .ranged in
-    (omega arith, sym (ranged .ensures (a .store .now)) ∙ not-false (ranged .result) (c .if2 .left))
+    (omega arith, sym (ranged .ensures .0 (a .store .now)) ∙ not-false (ranged .result) (c .if2 .left))
 
 tell-requires : tie.Need-tell-requires
 tell-requires c κs = search needs

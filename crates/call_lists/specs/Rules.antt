@@ -17,12 +17,12 @@ use Rattle.rules.specs.Calls.{Call, message, timer, done, oursOrAll, forUs, hea
 use Rattle.rules.specs.Step.{Answer, refused, silent, says, orders, isRefused, Stepped, onCount, takes, onItem, onAck, onClear, anyOthers, covered, onList, onRequest, onSetCurrent, onKnown, kindOk, onMessage, onTimer, act, step, run}
 use Rattle.rules.specs.Laws.Tests.{either}
 use Rattle.rules.specs.Laws.Refused.{message-answered, timer-answered}
-use Rattle.claims.specs.Uploads.{shownBy, answerTo, hears, letIn, Open, Completes, Empties, byCount, byClear, byClearAll, Stroke, uploaded, emptied, chosen, advanced, nothing}
-use Rattle.claims.specs.Laws.Lists.{run-snoc, same-self, same-station}
-use Rattle.claims.specs.Laws.Ranged.{Formed, formed-ranged}
-use Rattle.claims.specs.Laws.Kept.{RunRanged, run-ranged, formed}
-use Rattle.claims.specs.Laws.Turns.{no, or-left, runOf}
-use Rattle.claims.specs.Tracks.{one-more, Runs, open-runs, runs-open}
+use Rattle.call_lists.specs.Uploads.{shownBy, answerTo, hears, letIn, Open, Completes, Empties, byCount, byClear, byClearAll, Stroke, uploaded, emptied, chosen, advanced, nothing}
+use Rattle.call_lists.specs.Laws.Lists.{run-snoc, same-self, same-station}
+use Rattle.call_lists.specs.Laws.Ranged.{Formed, formed-ranged}
+use Rattle.call_lists.specs.Laws.Kept.{RunRanged, run-ranged, formed}
+use Rattle.call_lists.specs.Laws.Turns.{no, or-left, runOf}
+use Rattle.call_lists.specs.Tracks.{one-more, Runs, open-runs, runs-open}
 
 -- what is shown after one more call
 shown-after : (pre : List Call) (c : Call) → shownBy (pre ++ (c ∷ [])) ≡ act (run fresh pre) (hears c) .model .shown

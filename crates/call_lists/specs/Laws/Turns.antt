@@ -16,11 +16,11 @@ use Rattle.rules.specs.Calls.{Request, chooses, asksList, announces, clears, ac
 use Rattle.rules.specs.Step.{Answer, silent, Stepped, stays, withUpload, ended, idleAt, onCount, takes, onItem, onAck, onClear, anyOthers, covered, onList, onRequest, onSetCurrent, onKnown, kindOk, onMessage, onTimer, act}
 use Rattle.rules.specs.Laws.Tests.{both, either}
 use Rattle.rules.specs.Laws.Kinds.{each-kind}
-use Rattle.claims.specs.Uploads.{letIn, actsOn, acts}
+use Rattle.call_lists.specs.Uploads.{letIn, actsOn, acts}
 use Rattle.rules.specs.Laws.Lists.{at-set}
-use Rattle.claims.specs.Laws.Lists.{same-self, same-station}
-use Rattle.claims.specs.Laws.Ranged.{Formed, known-below}
-use Rattle.claims.specs.Laws.Kept.{HeardKnown, unknown-idle}
+use Rattle.call_lists.specs.Laws.Lists.{same-self, same-station}
+use Rattle.call_lists.specs.Laws.Ranged.{Formed, known-below}
+use Rattle.call_lists.specs.Laws.Kept.{HeardKnown, unknown-idle}
 
 pub no : {A : Type 0} → false ≡ true → A
 no e = absurd (true≢false (sym e))

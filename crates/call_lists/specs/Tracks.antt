@@ -11,12 +11,12 @@ use Rattle.rules.specs.Model.{Run, Upload, idle, running, Model, uploadOf, expe
 use Rattle.rules.specs.Calls.{Call, Heard, isKnown}
 use Rattle.rules.specs.Step.{Stepped, act, step, run}
 use Rattle.rules.specs.Laws.Kinds.{each-kind}
-use Rattle.claims.specs.Uploads.{answerTo, hears, letIn, acts, Open, opened, taken, waited, passed}
-use Rattle.claims.specs.Laws.Lists.{run-snoc}
-use Rattle.claims.specs.Laws.Ranged.{Formed}
-use Rattle.claims.specs.Laws.Kept.{HeardKnown, heard-known, formed, step-heard}
-use Rattle.claims.specs.Laws.Turns.{runOf, opens, takes-one, waits, passes-by}
-use Rattle.claims.specs.Laws.Back.{Came, not-running, comes}
+use Rattle.call_lists.specs.Uploads.{answerTo, hears, letIn, acts, Open, opened, taken, waited, passed}
+use Rattle.call_lists.specs.Laws.Lists.{run-snoc}
+use Rattle.call_lists.specs.Laws.Ranged.{Formed}
+use Rattle.call_lists.specs.Laws.Kept.{HeardKnown, heard-known, formed, step-heard}
+use Rattle.call_lists.specs.Laws.Turns.{runOf, opens, takes-one, waits, passes-by}
+use Rattle.call_lists.specs.Laws.Back.{Came, not-running, comes}
 
 -- one more call
 pub one-more : (pre : List Call) (c : Call) → step (run fresh pre) c ≡ act (run fresh pre) (hears c)

@@ -21,14 +21,14 @@ use Rattle.rules.specs.Calls.{Call, Request, chooses, asksList, announces, clea
 use Rattle.rules.specs.Step.{Answer, says, Stepped, anyOthers, covered, onCount, onItem, onClear, onRequest, onKnown, kindOk, onMessage, act, step, run, replyBytes}
 use Rattle.rules.specs.Laws.Tests.{both, either}
 use Rattle.rules.specs.Laws.Lists.{at-set}
-use Rattle.claims.specs.Uploads.{shownBy, answerTo, hears, letIn, actsOn, acts, Open, opened, taken, waited, passed, Completes, Empties, byCount, byClear, byClearAll, Stroke, uploaded, emptied as empties, chosen, advanced, nothing}
-use Rattle.claims.specs.Laws.Lists.{run-snoc, same-self, same-station}
-use Rattle.claims.specs.Laws.Ranged.{Formed, known-below}
-use Rattle.claims.specs.Laws.Kept.{HeardKnown, heard-known, formed}
-use Rattle.claims.specs.Laws.Turns.{no, or-none, runOf, clear-denied, message-other, timer-other}
-use Rattle.claims.specs.Laws.Back.{same-run}
-use Rattle.claims.specs.Tracks.{one-more, Runs, open-runs}
-use Rattle.claims.specs.Rules.{only-strokes, takes-effect, denies}
+use Rattle.call_lists.specs.Uploads.{shownBy, answerTo, hears, letIn, actsOn, acts, Open, opened, taken, waited, passed, Completes, Empties, byCount, byClear, byClearAll, Stroke, uploaded, emptied as empties, chosen, advanced, nothing}
+use Rattle.call_lists.specs.Laws.Lists.{run-snoc, same-self, same-station}
+use Rattle.call_lists.specs.Laws.Ranged.{Formed, known-below}
+use Rattle.call_lists.specs.Laws.Kept.{HeardKnown, heard-known, formed}
+use Rattle.call_lists.specs.Laws.Turns.{no, or-none, runOf, clear-denied, message-other, timer-other}
+use Rattle.call_lists.specs.Laws.Back.{same-run}
+use Rattle.call_lists.specs.Tracks.{one-more, Runs, open-runs}
+use Rattle.call_lists.specs.Rules.{only-strokes, takes-effect, denies}
 
 -- a kind is among some kinds
 abbrev pub among : List ℕ → ℕ → Bool

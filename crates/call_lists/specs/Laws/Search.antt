@@ -19,7 +19,7 @@ use Rattle.rules.specs.Model.{Shown, Model, planOf, lengthOf, every}
 use Rattle.rules.specs.NextCommand.{stuck, Met, ends, stands, follows, meets, repeatOf, targetOf, passedOver, runsAfter, countsAfter, searchFrom, Found, nowhere, found, settle, search, next, reach, advance}
 use Rattle.rules.specs.Laws.Tests.{both, either}
 use Rattle.rules.specs.Laws.Lists.{every-set, every-at}
-use Rattle.claims.specs.Laws.Ranged.{Formed}
+use Rattle.call_lists.specs.Laws.Ranged.{Formed}
 
 abbrev runsOk : List ℕ → Type 0
 runsOk counts = every (λ (n : ℕ). leb n maxRuns) counts ≡ true

@@ -16,12 +16,12 @@ use Rattle.rules.specs.Calls.{Request, chooses, asksList, announces, clears, ac
 use Rattle.rules.specs.Step.{Answer, silent, Stepped, stays, withUpload, ended, idleAt, onCount, takes, onItem, onAck, onClear, anyOthers, covered, onList, onRequest, onSetCurrent, onKnown, kindOk, onMessage, onTimer, act}
 use Rattle.rules.specs.Laws.Tests.{both, either}
 use Rattle.rules.specs.Laws.Kinds.{each-kind}
-use Rattle.claims.specs.Uploads.{letIn, actsOn, acts}
+use Rattle.call_lists.specs.Uploads.{letIn, actsOn, acts}
 use Rattle.rules.specs.Laws.Lists.{at-set}
-use Rattle.claims.specs.Laws.Lists.{same-self, same-station}
-use Rattle.claims.specs.Laws.Ranged.{Formed, known-below}
-use Rattle.claims.specs.Laws.Kept.{HeardKnown, RunRanged, run-ranged}
-use Rattle.claims.specs.Laws.Turns.{no, isClear, or-left, or-none, own-upload, other-upload, runOf, passes-by, message-other, timer-other}
+use Rattle.call_lists.specs.Laws.Lists.{same-self, same-station}
+use Rattle.call_lists.specs.Laws.Ranged.{Formed, known-below}
+use Rattle.call_lists.specs.Laws.Kept.{HeardKnown, RunRanged, run-ranged}
+use Rattle.call_lists.specs.Laws.Turns.{no, isClear, or-left, or-none, own-upload, other-upload, runOf, passes-by, message-other, timer-other}
 
 -- the four ways
 pub data Came (m : Model) (k : ℕ) (h : Heard) : Run → Type 0 where

@@ -16,8 +16,8 @@ use Rattle.rules.specs.Calls.{Call, message, timer, done, Request, chooses, ask
 use Rattle.rules.specs.Step.{Stepped, withUpload, idleAt, onCount, replaced, takes, onItem, onAck, onClear, anyOthers, covered, onList, onRequest, onSetCurrent, onKnown, kindOk, onMessage, onTimer, act, step, run}
 use Rattle.rules.specs.Laws.Tests.{both, either}
 use Rattle.rules.specs.Laws.Kinds.{covered-known}
-use Rattle.claims.specs.Laws.Ranged.{Formed, fresh-formed, formed-ranged, upload-formed, plan-formed, empty-formed, choose-formed}
-use Rattle.claims.specs.Laws.Search.{advance-formed}
+use Rattle.call_lists.specs.Laws.Ranged.{Formed, fresh-formed, formed-ranged, upload-formed, plan-formed, empty-formed, choose-formed}
+use Rattle.call_lists.specs.Laws.Search.{advance-formed}
 
 -- "a running upload's count 1 to size, its next number below its count, its repeats 0 to 5"
 pub record RunRanged (kind : ℕ) (r : Run) : Type 0 where

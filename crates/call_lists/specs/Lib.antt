@@ -1,0 +1,7 @@
+-- Demand 3 over the rules alone: uploads told by the list of calls, what takes effect, and what that means in plain terms.
+pub mod Uploads
+pub mod Tracks
+pub mod Rules
+pub mod Corollaries
+pub mod Worked
+pub mod Laws
