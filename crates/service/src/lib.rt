@@ -20,14 +20,14 @@ pub struct Advanced {
     pub command: Command,
 }
 
-// A fresh start. Wrong answers that this rules out: a plan that is not empty, and a kind in the second half of the store.
+// A fresh start. Wrong answers that this rules out: an item that is begun already, and item 1 as the current one.
 pub fn fresh() -> State
     ensures { λ r. ⌜ r ≡ freshState ⌝ }
 {
     plan::fresh()
 }
 
-// A message call. Wrong answers that this rules out: a refusal of a COUNT that fits (the rules request item 0), and a reply to an ACK.
+// A message call. Wrong answers that this rules out: refusing everything, and a reply that goes to another station than the sender.
 pub fn message(
     state: State,
     store: &mut [u8],
@@ -63,7 +63,7 @@ pub fn message(
     protocol::answer(state, store, reply, system, component, id, payload, clock)
 }
 
-// A timer call for one kind. Wrong answers that this rules out: an expiry at 249 ms, and a reply to another station than the upload's.
+// A timer call for one kind. Wrong answers that this rules out: refusing everything, and expiries by another clock than the one handed in.
 pub fn timer(state: State, store: &[u8], reply: &mut [u8], kind: u8, clock: u32) -> Served
     ensures { λ r. ⌜ Serves (calls.timer kind clock (length (now (store .entry))) (length (now (reply .entry)))) state (now (store .entry)) (now (store .entry)) (now (reply .entry)) (now (reply .exit)) (served r) ⌝ }
 {
@@ -80,7 +80,7 @@ pub fn timer(state: State, store: &[u8], reply: &mut [u8], kind: u8, clock: u32)
     messages::turn::on_timer(state, kind, clock, reply)
 }
 
-// A "command done" call. Wrong answers that this rules out: a state that changes although the answer is Stuck, and an item answered that is not the next.
+// A "command done" call. Wrong answers that this rules out: an answer without moving on to its item, and outcome 0, as if a message had been written.
 pub fn advance(state: State, store: &[u8]) -> Advanced
     ensures { λ r. ⌜ Serves (calls.done (length (now (store .entry)))) state (now (store .entry)) (now (store .entry)) [] [] (advanced r) ⌝ }
 {

@@ -132,6 +132,15 @@ module _ (m : Model) (f : Formed m) (k : ℕ) (known : isKnown k ≡ true) where
     unfolding act onMessage onKnown kindOk onAck isOwn
     ack-idle from now result = rw none none
 
+    -- a COUNT that is denied starts nothing
+    count-idle : (from : Station) (now n : ℕ) → From (request from now k (announces n)) (act m (request from now k (announces n)))
+    unfolding act onMessage onKnown kindOk onCount
+    count-idle from now n = go (isOthers from (uploadOf m k)) refl
+      where
+        go : (t : Bool) → isOthers from (uploadOf m k) ≡ t → From (request from now k (announces n)) (act m (request from now k (announces n)))
+        go true t = ends (request from now k (announces n)) (act m (request from now k (announces n))) (rw (known, t) none)
+        go false t = count-from from now n t
+
     calm : (from : Station) (now j : ℕ) (q : Request) → ((t : kindOk j q ≡ true) → Idle (onKnown m from now j q)) → From (request from now j q) (act m (request from now j q))
     unfolding act onMessage
     calm from now j q h = ends (request from now j q) (act m (request from now j q)) (either Idle (kindOk j q) h (λ t. none))
@@ -141,7 +150,7 @@ module _ (m : Model) (f : Formed m) (k : ℕ) (known : isKnown k ≡ true) where
     idle-from from now j (chooses seq) = calm from now j (chooses seq) (λ t. either Idle (ltb seq (lengthOf (m .shown) flight)) (λ t. none) (λ t. none))
     idle-from from now j asksList = calm from now j asksList (λ t. none)
     idle-from from now j (asksItem seq) = calm from now j (asksItem seq) (λ t. either Idle (ltb seq (lengthOf (m .shown) j)) (λ t. none) (λ t. none))
-    idle-from from now j (announces n) = by-kind from now j (announces n) (λ c. true≢false (sym (ap isClear c))) (count-from from now n (rw none))
+    idle-from from now j (announces n) = by-kind from now j (announces n) (λ c. true≢false (sym (ap isClear c))) (count-idle from now n)
     idle-from from now j (brings item) =
         by-kind from now j (brings item) (λ c. true≢false (sym (ap isClear c))) (ends (request from now k (brings item)) (act m (request from now k (brings item))) (item-idle from now item))
     idle-from from now j (acknowledges result) =
