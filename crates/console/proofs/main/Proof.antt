@@ -1,0 +1,51 @@
+-- The loop's measure is the count of turns left.
+use borrow.Author.Needs.{needs}
+use Rattle.console.proofs.main.Statement.{statement}
+use Rattle.console.proofs.main.Tie as tie
+
+abbrev Inv-loop : tie.InvT-loop
+Inv-loop bytes₀ out₀ store₀ copy₀ reply₀ state₀ source₀ at₀ turns₀ bytes out store copy reply state source at turns =
+    Unit {0}
+
+abbrev μ-loop : tie.MeasureT-loop
+μ-loop bytes₀ out₀ store₀ copy₀ reply₀ state₀ source₀ at₀ turns₀ bytes out store copy reply state source at turns =
+    turns
+
+fresh-requires : tie.Need-fresh-requires Inv-loop μ-loop
+fresh-requires c κs = tt
+
+loop-holds : tie.Need-loop-holds Inv-loop μ-loop
+loop-holds c = tt
+
+play-next-requires : tie.Need-play-next-requires Inv-loop μ-loop
+play-next-requires c κs = tt
+
+sub-turns : tie.Need-sub-turns Inv-loop μ-loop
+sub-turns c = search needs
+
+loop-less : tie.Need-loop-less Inv-loop μ-loop
+loop-less c = search needs
+
+loop-again : tie.Need-loop-again Inv-loop μ-loop
+loop-again c = tt
+
+flush-requires : tie.Need-flush-requires Inv-loop μ-loop
+flush-requires c κs = tt
+
+returns : tie.Need-returns Inv-loop μ-loop
+returns c = tt
+
+pub main-spec : {M : Type 1} → statement M
+main-spec =
+    tie.close
+    (tie.spec
+    Inv-loop
+    μ-loop
+    fresh-requires
+    loop-holds
+    play-next-requires
+    sub-turns
+    loop-less
+    loop-again
+    flush-requires
+    returns)
