@@ -7,12 +7,13 @@ ghost use Rattle.rules.specs.Limits.{rally, sizeOf, storeBytes};
 ghost use Rattle.rules.specs.Messages.{station};
 ghost use Rattle.rules.specs.Items.{fault, jumpsAmong};
 ghost use Rattle.rules.specs.Model.{wholeOk};
-ghost use Rattle.wire.specs.Structs.{patternsItem};
+ghost use Rattle.item.specs.Patterns.{itemFor, patterns};
 ghost use Rattle.plan.specs.Places.{itemsIn};
 ghost use Rattle.plan.specs.Ranges.{uploadRanged};
 ghost use Rattle.upload.specs.Turns.{took, takesItem, itemTook};
 ghost use Rattle.engine.specs.Judging.{InRange, judgedAs};
 use fence::fence_ok;
+use item::Item;
 use plan::FENCE;
 use plan::Plan;
 use plan::Run;
@@ -28,7 +29,6 @@ use upload::updates::renews;
 use upload::updates::replaced;
 use upload::updates::with_upload;
 use upload::uploads::is_from;
-use wire::Patterns;
 
 const INVALID: u8 = 5;
 
@@ -44,24 +44,10 @@ pub enum Judged {
 }
 
 // The result for an item as the next of an upload whose items taken stand in a half.
-fn result_of(store: &[u8], kind: u8, half: bool, run: Run, patterns: Patterns) -> u8
-    requires { ⌜ (storeBytes ≤ length (now store)) × (kind ≤ rally) × InRange (sizeOf kind) run ⌝ }
-    ensures { λ r. ⌜ r ≡ fault kind (run .count) (run .next) (jumpsAmong (itemsIn (now (store .entry)) half kind (run .next))) (patternsItem patterns) ⌝ }
+fn result_of(store: &[u8], kind: u8, half: bool, run: Run, item: Item) -> u8
+    requires { ⌜ (storeBytes ≤ length (now store)) × (kind ≤ rally) × InRange (sizeOf kind) run × (item ≡ itemFor (patterns item)) ⌝ }
+    ensures { λ r. ⌜ r ≡ fault kind (run .count) (run .next) (jumpsAmong (itemsIn (now (store .entry)) half kind (run .next))) (patterns item) ⌝ }
 {
-    let item = item::made(
-        patterns.bits1,
-        patterns.bits2,
-        patterns.bits3,
-        patterns.bits4,
-        patterns.bits_x,
-        patterns.bits_y,
-        patterns.bits_z,
-        patterns.seq,
-        patterns.command,
-        patterns.frame,
-        patterns.autocontinue,
-        patterns.kind,
-    );
     let before = jumps(store, kind, half, run.next);
     item::verdict(item, kind, run.count, run.next, before)
 }
@@ -74,41 +60,32 @@ fn judge_running(
     run: Run,
     system: u8,
     component: u8,
-    patterns: Patterns,
+    item: Item,
 ) -> Judged
-    requires { ⌜ (storeBytes ≤ length (now store)) × (kind ≤ rally) × InRange (sizeOf kind) run ⌝ }
-    ensures { λ r. ⌜ r ≡ judgedAs (now (store .entry)) kind (Upload.Running run) plan (station system component) (patternsItem patterns) ⌝ }
+    requires { ⌜ (storeBytes ≤ length (now store)) × (kind ≤ rally) × InRange (sizeOf kind) run × (item ≡ itemFor (patterns item)) ⌝ }
+    ensures { λ r. ⌜ r ≡ judgedAs (now (store .entry)) kind (Upload.Running run) plan (station system component) (patterns item) ⌝ }
 {
     if !is_from(run, system, component) {
         return Judged::Refused(DENIED);
     }
-    if patterns.seq != run.next {
+    if item.seq != run.next {
         return Judged::OutOfTurn(run.next);
     }
-    let result = result_of(store, kind, !plan.half, run, patterns);
+    let result = result_of(store, kind, !plan.half, run, item);
     if result != ACCEPTED {
         return Judged::Invalid(result);
     }
     Judged::Valid(run)
 }
 
-fn judge(
-    store: &[u8],
-    kind: u8,
-    plan: Plan,
-    system: u8,
-    component: u8,
-    patterns: Patterns,
-) -> Judged
-    requires { ⌜ (storeBytes ≤ length (now store)) × (kind ≤ rally) × (uploadRanged (sizeOf kind) (plan .upload) ≡ true) ⌝ }
-    ensures { λ r. ⌜ r ≡ judgedAs (now (store .entry)) kind (plan .upload) plan (station system component) (patternsItem patterns) ⌝ }
+fn judge(store: &[u8], kind: u8, plan: Plan, system: u8, component: u8, item: Item) -> Judged
+    requires { ⌜ (storeBytes ≤ length (now store)) × (kind ≤ rally) × (uploadRanged (sizeOf kind) (plan .upload) ≡ true) × (item ≡ itemFor (patterns item)) ⌝ }
+    ensures { λ r. ⌜ r ≡ judgedAs (now (store .entry)) kind (plan .upload) plan (station system component) (patterns item) ⌝ }
 {
     let upload = plan.upload;
     match upload {
         Upload::Idle => Judged::Refused(INVALID_SEQUENCE),
-        Upload::Running(run) => {
-            judge_running(store, kind, plan, run, system, component, patterns)
-        }
+        Upload::Running(run) => { judge_running(store, kind, plan, run, system, component, item) }
     }
 }
 
@@ -155,18 +132,18 @@ pub fn on_item(
     system: u8,
     component: u8,
     clock: u32,
-    patterns: Patterns,
+    item: Item,
 ) -> Turned
-    requires { ⌜ (storeBytes ≤ length (now store)) × (kind ≤ rally) × (uploadRanged (sizeOf kind) (plan .upload) ≡ true) ⌝ }
-    ensures { λ r. ⌜ took r (now (store .exit)) ≡ itemTook (now (store .entry)) kind (plan .upload) plan (station system component) clock (patternsItem patterns) ⌝ }
+    requires { ⌜ (storeBytes ≤ length (now store)) × (kind ≤ rally) × (uploadRanged (sizeOf kind) (plan .upload) ≡ true) × (item ≡ itemFor (patterns item)) ⌝ }
+    ensures { λ r. ⌜ took r (now (store .exit)) ≡ itemTook (now (store .entry)) kind (plan .upload) plan (station system component) clock (patterns item) ⌝ }
 {
-    let judged = judge(store, kind, plan, system, component, patterns);
+    let judged = judge(store, kind, plan, system, component, item);
     match judged {
         Judged::Refused(result) => keeps(plan, Say::Ack(result, 0)),
         Judged::OutOfTurn(next) => keeps(plan, Say::Ask(next)),
         Judged::Invalid(result) => keeps(ended(plan), Say::Ack(result, 0)),
         Judged::Valid(run) => {
-            storage::keep(store, kind, !plan.half, run.next, patterns);
+            storage::keep(store, kind, !plan.half, run.next, item);
             take(store, kind, plan, run, clock)
         }
     }

@@ -8,7 +8,7 @@ ghost use Rattle.rules.specs.Limits.{rally, everyKind, storeBytes, replyBytesMi
 ghost use Rattle.rules.specs.Payload.{Bytes};
 ghost use Rattle.rules.specs.Messages.{station};
 ghost use Rattle.rules.specs.Calls.{announces, acknowledges, brings, isKnown};
-ghost use Rattle.wire.specs.Structs.{patternsItem};
+ghost use Rattle.item.specs.Patterns.{itemFor, patterns};
 ghost use Rattle.plan.specs.Ranges.{stateRanged};
 ghost use Rattle.engine.specs.Whole.{turns, clearDone, knownDone, timerDone};
 ghost use Rattle.messages.specs.Answered.{AnsweredBy, Handled};
@@ -19,6 +19,7 @@ use crate::say::speak;
 use engine::states::cleared;
 use engine::states::others_among;
 use engine::states::turned_state;
+use item::Item;
 use plan::RALLY;
 use plan::State;
 use plan::places::size_of;
@@ -26,7 +27,6 @@ use upload::Turned;
 use upload::turns::ACCEPTED;
 use upload::turns::DENIED;
 use upload::uploads::station_of;
-use wire::Patterns;
 
 // A kind's turn is put into the state, and what it says goes to a station.
 fn turn(
@@ -73,18 +73,18 @@ pub fn on_item(
     state: State,
     store: &mut [u8],
     kind: u8,
-    patterns: Patterns,
+    item: Item,
     system: u8,
     component: u8,
     clock: u32,
     reply: &mut [u8],
 ) -> Served
-    requires { ⌜ (kind ≤ rally) × (stateRanged state ≡ true) × (storeBytes ≤ length (now store)) × (replyBytesMin ≤ length (now reply)) ⌝ }
-    ensures { λ r. ⌜ Handled (knownDone state (now (store .entry)) (station system component) clock kind (brings (patternsItem patterns))) (now (store .exit)) (now (reply .entry)) (now (reply .exit)) r ⌝ }
+    requires { ⌜ (kind ≤ rally) × (stateRanged state ≡ true) × (storeBytes ≤ length (now store)) × (replyBytesMin ≤ length (now reply)) × (item ≡ itemFor (patterns item)) ⌝ }
+    ensures { λ r. ⌜ Handled (knownDone state (now (store .entry)) (station system component) clock kind (brings (patterns item))) (now (store .exit)) (now (reply .entry)) (now (reply .exit)) r ⌝ }
 {
     let k = kind as usize;
     let plan = state.plans[k];
-    let turned = engine::items::on_item(plan, store, kind, system, component, clock, patterns);
+    let turned = engine::items::on_item(plan, store, kind, system, component, clock, item);
     turn(state, kind, turned, system, component, reply)
 }
 

@@ -45,7 +45,7 @@ fn put(store: &mut [u8], n: u16, command: u16, bits1: u32, bits2: u32) {
         autocontinue: 1,
         kind: 0,
     };
-    storage::keep(store, 0, false, n, patterns);
+    storage::keep(store, 0, false, n, storage::item_of(patterns));
 }
 
 // Takeoff, waypoint, jump to 1 twice, land.

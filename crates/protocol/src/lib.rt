@@ -86,16 +86,8 @@ pub fn answer(
         _ => {
             let m = wire::read_item_int(payload);
             let patterns = m.patterns;
-            on_item(
-                state,
-                store,
-                kind,
-                patterns,
-                system,
-                component,
-                clock,
-                reply,
-            )
+            let item = storage::item_of(patterns);
+            on_item(state, store, kind, item, system, component, clock, reply)
         }
     }
 }

@@ -4,7 +4,7 @@ ghost use Prim.Native.Nat.{_≤_, _<_};
 ghost use lib.ListN.{length};
 ghost use Rattle.rules.specs.Limits.{rally, sizeOf, storeBytes};
 ghost use Rattle.rules.specs.Messages.{itemIn, itemOf};
-ghost use Rattle.item.specs.Patterns.{itemFor};
+ghost use Rattle.item.specs.Patterns.{itemFor, patterns};
 ghost use Rattle.wire.specs.Structs.{patternsItem};
 ghost use Rattle.plan.specs.Places.{itemAt};
 ghost use Rattle.plan.specs.Writes.{putAt};
@@ -29,33 +29,60 @@ pub fn fetch_patterns(store: &[u8], kind: u8, half: bool, n: u16) -> Patterns
     wire::patterns_at(&store[at..end])
 }
 
+// The item of these patterns, with its values.
+pub fn item_of(patterns: Patterns) -> Item
+    ensures { λ r. ⌜ r ≡ itemFor (patternsItem patterns) ⌝ }
+{
+    item::made(
+        patterns.bits1,
+        patterns.bits2,
+        patterns.bits3,
+        patterns.bits4,
+        patterns.bits_x,
+        patterns.bits_y,
+        patterns.bits_z,
+        patterns.seq,
+        patterns.command,
+        patterns.frame,
+        patterns.autocontinue,
+        patterns.kind,
+    )
+}
+
+// The patterns of an item, as they are written.
+fn patterns_of(item: Item) -> Patterns
+    ensures { λ r. ⌜ patternsItem r ≡ patterns item ⌝ }
+{
+    Patterns {
+        bits1: item.bits1,
+        bits2: item.bits2,
+        bits3: item.bits3,
+        bits4: item.bits4,
+        bits_x: item.bits_x,
+        bits_y: item.bits_y,
+        bits_z: item.bits_z,
+        seq: item.seq,
+        command: item.command,
+        frame: item.frame,
+        autocontinue: item.autocontinue,
+        kind: item.kind,
+    }
+}
+
 // The item with a number, with its values.
 pub fn fetch(store: &[u8], kind: u8, half: bool, n: u16) -> Item
     requires { ⌜ (storeBytes ≤ length (now store)) × (kind ≤ rally) × (n < sizeOf kind) ⌝ }
     ensures { λ r. ⌜ r ≡ itemFor (itemIn (itemAt (now (store .entry)) half kind n)) ⌝ }
 {
-    let p = fetch_patterns(store, kind, half, n);
-    item::made(
-        p.bits1,
-        p.bits2,
-        p.bits3,
-        p.bits4,
-        p.bits_x,
-        p.bits_y,
-        p.bits_z,
-        p.seq,
-        p.command,
-        p.frame,
-        p.autocontinue,
-        p.kind,
-    )
+    let there = fetch_patterns(store, kind, half, n);
+    item_of(there)
 }
 
 // The item becomes the one with a number; every other byte of the store stays.
-pub fn keep(store: &mut [u8], kind: u8, half: bool, n: u16, patterns: Patterns)
+pub fn keep(store: &mut [u8], kind: u8, half: bool, n: u16, item: Item)
     requires { ⌜ (storeBytes ≤ length (now store)) × (kind ≤ rally) × (n < sizeOf kind) ⌝ }
-    ensures { λ _. ⌜ now (store .exit) ≡ putAt (now (store .entry)) half kind n (itemOf (patternsItem patterns)) ⌝ }
+    ensures { λ _. ⌜ now (store .exit) ≡ putAt (now (store .entry)) half kind n (itemOf (patterns item)) ⌝ }
 {
-    let bytes = reply::item_bytes(NOBODY, NOBODY, NOT_CURRENT, patterns);
+    let bytes = reply::item_bytes(NOBODY, NOBODY, NOT_CURRENT, patterns_of(item));
     put_item(store, place_at(kind, half, n), bytes);
 }

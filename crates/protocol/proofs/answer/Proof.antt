@@ -13,6 +13,8 @@ use Rattle.rules.specs.Messages.{Station, station, ack, messageOf, decode}
 use Rattle.rules.specs.Laws.Tests.{either}
 use Rattle.rules.specs.Calls.{Request, chooses, asksList, announces, clears, acknowledges, asksItem, brings, isKnown}
 use Rattle.rules.specs.Step.{says, covered, kindOk}
+use Rattle.item.specs.declared.Item.{Item}
+use Rattle.item.specs.Patterns.{patterns, itemFor, patterns-of, values-of}
 use Rattle.wire.specs.declared.table.Head.{Head}
 use Rattle.wire.specs.declared.messages.SetCurrent.{SetCurrent}
 use Rattle.wire.specs.declared.messages.Count.{Count}
@@ -128,11 +130,13 @@ module _ (st : State) (s : Bytes) (system component clock id : ℕ) (p : Bytes) 
 
     module _ (read : isRead (decode id p) ≡ true) (n41 : id ≡ setCurrentId → ⊥) (n43 : id ≡ requestListId → ⊥) (n44 : id ≡ countId → ⊥)
         (n45 : id ≡ clearAllId → ⊥) (n47 : id ≡ ackId → ⊥) (n51 : id ≡ requestIntId → ⊥) where
-      brings-item : (s′ b b′ : Bytes) (r : Served) (m : ItemInt) → itemIntMessage m ≡ decode itemIntId p
-          → Handled (knownDone st s from clock (head .kind) (brings (patternsItem (m .patterns)))) s′ b b′ r → Goal s′ b b′ r
-      brings-item s′ b b′ r m reads handled =
+      brings-item : (s′ b b′ : Bytes) (r : Served) (m : ItemInt) (item : Item) → itemIntMessage m ≡ decode itemIntId p
+          → item ≡ itemFor (patternsItem (m .patterns)) → Handled (knownDone st s from clock (head .kind) (brings (patterns item))) s′ b b′ r
+          → Goal s′ b b′ r
+      brings-item s′ b b′ r m item reads made handled =
           let e : id ≡ itemIntId = item-left id p read n41 n43 n44 n45 n47 n51 in
-          request-done (brings (patternsItem (m .patterns))) s′ b b′ r (rw e (ap requestOf (sym reads))) (handled .answered) (handled .store)
+          let asked : requestOf (decode id p) ≡ brings (patternsItem (m .patterns)) = rw e (ap requestOf (sym reads)) in
+          request-done (brings (patterns item)) s′ b b′ r (asked ∙ ap brings (sym (patterns-of made))) (handled .answered) (handled .store)
 
 head-of-requires : tie.Need-head-of-requires
 head-of-requires c κs = search needs
@@ -182,8 +186,11 @@ on-request-requires c κs = search (known-request, needs)
 read-item-int-requires : tie.Need-read-item-int-requires
 read-item-int-requires c κs = search needs
 
+item-of-requires : tie.Need-item-of-requires
+item-of-requires c κs = search needs
+
 on-item-requires : tie.Need-on-item-requires
-on-item-requires c κs = search (known-kind, needs)
+on-item-requires c κs = search (known-kind, values-of, needs)
 
 same-length-2 : tie.Need-same-length-2
 same-length-2 c = search needs
@@ -228,7 +235,9 @@ same-length-9 : tie.Need-same-length-9
 same-length-9 c = search needs
 
 returns-8 : tie.Need-returns-8
-returns-8 c = search (brings-item, c .before .before .before .before .before .before .before .before .before .before .before .before .before .before .before .before .pre, needs)
+returns-8 c =
+    let told = c .before .before .before .before .before .before .before .before .before .before in
+    search (brings-item, told .match .rest, told .before .before .before .before .before .before .before .pre, needs)
 
 pub answer-spec : {M : Type 1} → statement M
 answer-spec =
@@ -250,6 +259,7 @@ answer-spec =
     read-request-int-requires
     on-request-requires
     read-item-int-requires
+    item-of-requires
     on-item-requires
     same-length-2
     returns-2

@@ -5,10 +5,8 @@ use mathlib.Core.Bool.{true}
 use borrow.Author.Needs.{needs}
 use Rattle.rules.specs.Limits.{rally, sizeOf}
 use Rattle.rules.specs.Payload.{Bytes}
-use Rattle.rules.specs.Messages.{station}
+use Rattle.rules.specs.Messages.{Item, station}
 use Rattle.rules.specs.Calls.{brings}
-use Rattle.wire.specs.declared.messages.Patterns.{Patterns}
-use Rattle.wire.specs.Structs.{patternsItem}
 use Rattle.plan.specs.declared.State.{State}
 use Rattle.plan.specs.View.{planOf}
 use Rattle.plan.specs.Ranges.{uploadRanged, stateRanged}
@@ -24,12 +22,12 @@ use Rattle.messages.proofs.turn.on_item.Tie as tie
 in-range : (st : State) (kind : ℕ) → stateRanged st ≡ true → kind ≤ rally → uploadRanged (sizeOf kind) (planOf st kind .upload) ≡ true
 in-range st kind ranged known = plan-ranges st kind ranged known .upload
 
-brought : (st : State) (s s′ : Bytes) (kind system component clock : ℕ) (patterns : Patterns) (turned : Turned) (b b′ : Bytes) (r : Served)
-    → took turned s′ ≡ itemTook s kind (planOf st kind .upload) (planOf st kind) (station system component) clock (patternsItem patterns)
+brought : (st : State) (s s′ : Bytes) (kind system component clock : ℕ) (item : Item) (turned : Turned) (b b′ : Bytes) (r : Served)
+    → took turned s′ ≡ itemTook s kind (planOf st kind .upload) (planOf st kind) (station system component) clock item
     → ((store : Bytes) → AnsweredBy (turns st store kind (station system component) turned) b b′ r)
-    → Handled (knownDone st s (station system component) clock kind (brings (patternsItem patterns))) s′ b b′ r
+    → Handled (knownDone st s (station system component) clock kind (brings item)) s′ b b′ r
 unfolding knownDone
-brought st s s′ kind system component clock patterns turned b b′ r turn answered =
+brought st s s′ kind system component clock item turned b b′ r turn answered =
     record { answered = rw (sym (ap (λ (t : Took). t .turned) turn)) (answered s); store = ap (λ (t : Took). t .store) turn }
 
 mul-plan : tie.Need-mul-plan
