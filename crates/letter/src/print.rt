@@ -1,0 +1,88 @@
+// Words, numbers and places on standard output.
+use wire::Patterns;
+
+pub fn text(words: &[u8]) {
+    io::write_all(1, words);
+}
+
+fn wide(n: u32) -> u64 {
+    n as u64
+}
+
+pub fn number(n: u32) {
+    io::print_decimal(1, wide(n));
+}
+
+pub fn of_byte(n: u8) -> u32 {
+    n as u32
+}
+
+pub fn of_short(n: u16) -> u32 {
+    n as u32
+}
+
+pub fn station(system: u8, component: u8) {
+    number(of_byte(system));
+    text(b"/");
+    number(of_byte(component));
+}
+
+pub fn kind(k: u8) {
+    match k {
+        plan::FLIGHT => text(b"flight"),
+        plan::FENCE => text(b"fence"),
+        plan::RALLY => text(b"rally"),
+        _ => text(b"unknown"),
+    }
+}
+
+fn command(c: u16) {
+    match c {
+        16 => text(b"waypoint"),
+        21 => text(b"land"),
+        22 => text(b"takeoff"),
+        5003 => text(b"circle to stay inside"),
+        5004 => text(b"circle to stay out of"),
+        _ => text(b"command"),
+    }
+}
+
+fn digit(n: u32) {
+    number(n % 10);
+}
+
+// A count of ten-millionths with its seven decimals.
+fn decimals(n: u32) {
+    number(n / 10000000);
+    text(b".");
+    digit(n / 1000000);
+    digit(n / 100000);
+    digit(n / 10000);
+    digit(n / 1000);
+    digit(n / 100);
+    digit(n / 10);
+    digit(n);
+}
+
+// Degrees from the 32 bits of a signed number of ten-millionths.
+fn degrees(bits: u32) {
+    if bits < 0x8000_0000 {
+        decimals(bits);
+        return;
+    }
+    text(b"-");
+    decimals(std::num::wrapping_sub_u32(0, bits));
+}
+
+// An item's number, what it asks for, and where.
+pub fn item(p: Patterns) {
+    text(b"item ");
+    number(of_short(p.seq));
+    text(b", ");
+    command(p.command);
+    text(b" at ");
+    degrees(p.bits_x);
+    text(b", ");
+    degrees(p.bits_y);
+    text(b"\n");
+}
