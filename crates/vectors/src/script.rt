@@ -1,0 +1,251 @@
+// A script of cases. A line is NAME: OP ARGS > WANTED. Ops that a line of output comes from:
+// m ID HEX > OUTCOME ID HEX                                        a message
+// t KIND > OUTCOME ID HEX                                          a timer call
+// i KIND FIRST LAST COMMAND FRAME PARAM1 PARAM2 X Y Z > the same   items; what the last one gets
+// u KIND COUNT COMMAND FRAME PARAM1 PARAM2 X Y Z > RESULT          a whole upload from a fresh start; its last item's result
+// d > OUTCOME CASE ITEM                                            "command done": 0 Fly to 5 Servo, 6 Finished, 7 Stuck
+// Ops that set what later lines use: f (a fresh start), o (own numbers), s (the sender's), c (the clock), l (how much of store and
+// reply buffer is lent), p (the current item, as a host might write it).
+use crate::calls;
+use crate::calls::Host;
+use crate::items;
+use crate::items::Fields;
+use crate::report;
+use crate::text::byte_at;
+use crate::text::find;
+use crate::text::next_bytes;
+use crate::text::next_number;
+use crate::text::ten_numbers;
+use messages::Served;
+use next_command::Command;
+use plan::State;
+
+struct World {
+    state: State,
+    host: Host,
+}
+
+fn byte(n: u32) -> u8 {
+    (n % 256) as u8
+}
+
+fn after(at: usize, n: usize) -> usize {
+    std::num::wrapping_add_usize(at, n)
+}
+
+// What lines that make no call change.
+fn set_host(op: u8, host: Host, a: u32, b: u32) -> Host {
+    let mut h = host;
+    match op {
+        b'o' => {
+            h.own_system = byte(a);
+            h.own_component = byte(b);
+            h
+        }
+        b's' => {
+            h.system = byte(a);
+            h.component = byte(b);
+            h
+        }
+        b'c' => {
+            h.clock = a;
+            h
+        }
+        b'l' => {
+            h.store = a as usize;
+            h.reply = b as usize;
+            h
+        }
+        b'f' => calls::usual(),
+        _ => h,
+    }
+}
+
+fn set_state(op: u8, state: State, a: u32) -> State {
+    let mut s = state;
+    match op {
+        b'f' => service::fresh(),
+        b'p' => {
+            s.current = (a % 65536) as u16;
+            s
+        }
+        _ => s,
+    }
+}
+
+fn message(
+    text: &[u8],
+    at: usize,
+    w: World,
+    store: &mut [u8; 26752],
+    reply: &mut [u8; 64],
+) -> Served {
+    let id = next_number(text, at);
+    let mut payload = [0u8; 64];
+    let bytes = next_bytes(text, id.at, &mut payload);
+    let host = w.host;
+    let state = w.state;
+    calls::message(host, state, store, reply, id.value, &payload, bytes.count)
+}
+
+fn timer(text: &[u8], at: usize, w: World, store: &[u8; 26752], reply: &mut [u8; 64]) -> Served {
+    let kind = next_number(text, at);
+    let host = w.host;
+    let state = w.state;
+    calls::timer(host, state, store, reply, byte(kind.value))
+}
+
+fn fields(kind: u32, a: [u32; 10], from: usize) -> Fields {
+    if from == 3 {
+        return Fields {
+            kind,
+            command: a[3],
+            frame: a[4],
+            param1: a[5],
+            param2: a[6],
+            x: a[7],
+            y: a[8],
+            z: a[9],
+        };
+    }
+    Fields {
+        kind,
+        command: a[2],
+        frame: a[3],
+        param1: a[4],
+        param2: a[5],
+        x: a[6],
+        y: a[7],
+        z: a[8],
+    }
+}
+
+fn sent(text: &[u8], at: usize, w: World, store: &mut [u8; 26752], reply: &mut [u8; 64]) -> Served {
+    let a = ten_numbers(text, at);
+    let host = w.host;
+    let state = w.state;
+    items::send_items(host, state, store, reply, fields(a[0], a, 3), a[1], a[2])
+}
+
+fn uploaded(text: &[u8], at: usize, store: &mut [u8; 26752], reply: &mut [u8; 64]) -> Served {
+    let a = ten_numbers(text, at);
+    items::upload(
+        calls::usual(),
+        service::fresh(),
+        store,
+        reply,
+        fields(a[0], a, 2),
+        a[1],
+    )
+}
+
+// A command's case and item.
+struct Told {
+    case: u32,
+    item: u16,
+}
+
+fn answer(case: u32, item: u16) -> Told {
+    Told { case, item }
+}
+
+fn tell(command: Command) -> Told {
+    match command {
+        Command::Fly(n) => answer(0, n),
+        Command::Wait(n, x) => answer(1, n),
+        Command::Near(n, x) => answer(2, n),
+        Command::Turn(n, x) => answer(3, n),
+        Command::Speed(n, x) => answer(4, n),
+        Command::Servo(n, channel, pulse) => answer(5, n),
+        Command::Finished => answer(6, 0),
+        Command::Stuck => answer(7, 0),
+    }
+}
+
+fn done(text: &[u8], wanted: usize, w: World, store: &[u8; 26752]) -> State {
+    let s = w.state;
+    let host = w.host;
+    let advanced = calls::done(host, s, store);
+    let command = advanced.command;
+    let t = tell(command);
+    report::command_is(text, wanted, advanced.outcome as u32, t.case, t.item as u32);
+    advanced.state
+}
+
+// A line that makes a call: its name is written already, and wanted is where its WANTED begins. The state after it.
+fn play(op: u8, text: &[u8], at: usize, wanted: usize, w: World, store: &mut [u8; 26752]) -> State {
+    let mut reply = [report::FILL; 64];
+    match op {
+        b'm' => {
+            let served = message(text, at, w, store, &mut reply);
+            report::reply_is(text, wanted, served, &reply);
+            served.state
+        }
+        b't' => {
+            let served = timer(text, at, w, store, &mut reply);
+            report::reply_is(text, wanted, served, &reply);
+            served.state
+        }
+        b'i' => {
+            let served = sent(text, at, w, store, &mut reply);
+            report::reply_is(text, wanted, served, &reply);
+            served.state
+        }
+        b'u' => {
+            let served = uploaded(text, at, store, &mut reply);
+            report::result_is(text, wanted, served, &reply);
+            served.state
+        }
+        _ => done(text, wanted, w, store),
+    }
+}
+
+fn calls_service(op: u8) -> bool {
+    match op {
+        b'm' | b't' | b'i' | b'u' | b'd' => true,
+        _ => false,
+    }
+}
+
+fn set(op: u8, text: &[u8], at: usize, w: World) -> World {
+    let a = next_number(text, at);
+    let b = next_number(text, a.at);
+    let h = w.host;
+    let s = w.state;
+    let host = set_host(op, h, a.value, b.value);
+    let state = set_state(op, s, a.value);
+    World { state, host }
+}
+
+fn line(text: &[u8], at: usize, w: World, store: &mut [u8; 26752]) -> World {
+    let name_end = find(text, at, b':');
+    let op = byte_at(text, after(name_end, 2));
+    let args = after(name_end, 3);
+    if calls_service(op) {
+        report::name(text, at, name_end);
+        let wanted = after(find(text, args, b'>'), 1);
+        let state = play(op, text, args, wanted, w, store);
+        let host = w.host;
+        return World { state, host };
+    }
+    set(op, text, args, w)
+}
+
+// Every line of a script, from a fresh start on.
+pub fn run(text: &[u8]) {
+    let mut store = [0u8; 26752];
+    let mut w = World {
+        state: service::fresh(),
+        host: calls::usual(),
+    };
+    let mut at: usize = 0;
+    let mut turns = text.len();
+    while 0 < turns {
+        if text.len() <= at {
+            break;
+        }
+        w = line(text, at, w, &mut store);
+        at = after(find(text, at, b'\n'), 1);
+        turns -= 1;
+    }
+}
