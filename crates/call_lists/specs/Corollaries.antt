@@ -5,29 +5,27 @@ use mathlib.Core.Path.{_≡_, refl, sym, ap, subst, _∙_}
 use mathlib.Core.List.{List, [], _∷_, _++_, map, map-append}
 use mathlib.Core.Bool.{Bool, true, false, true≢false, not, cond, _&&_, _||_}
 use native.Mathlib.Nat.{not-suc-le-zero, le-of-suc-le-suc}
-use lib.ListN.{length, getD, set, length-map}
+use lib.ListN.{length, getD, length-map}
 use lib.Seq.{getD-set-other, getD-set-same}
-use lib.Dec.{eqb, leb, ltb}
-use borrow.Author.Tests.{leb-true, eqb-true, eqb-false, eq-eqb, ne-eqb, lt-ltb}
-use Rattle.rules.specs.Limits.{flight, rally, kinds, everyKind, accepted, denied}
+use lib.Dec.{eqb}
+use borrow.Author.Tests.{eqb-true, eqb-false, eq-eqb, ne-eqb, lt-ltb}
+use Rattle.rules.specs.Limits.{flight, kinds, everyKind, denied}
 use Rattle.rules.specs.Payload.{Bytes}
 use Rattle.rules.specs.Messages.{Station, station, sameStation, Item, requestInt, ack, itemInt, decode, itemOf, itemIn}
 use Rattle.rules.specs.Layouts.{itemIntId}
 use Rattle.rules.specs.Fitting.{Fits}
 use Rattle.rules.specs.ReadBack.{reads-back, item-reads-back}
-use Rattle.rules.specs.Model.{Plan, Run, Upload, idle, running, Shown, Model, noPlan, planOf, lengthOf, uploadOf, fresh, nextNumber, expected, isOthers, withPlan, put, emptied, empty, choose}
+use Rattle.rules.specs.Model.{Plan, Run, running, Shown, Model, noPlan, planOf, lengthOf, uploadOf, fresh, nextNumber, expected, isOthers, withPlan, put, emptied, empty, choose}
 use Rattle.rules.specs.NextCommand.{Found, nowhere, found, next, reach, advance}
 use Rattle.rules.specs.Calls.{Call, Request, chooses, asksList, announces, clears, acknowledges, asksItem, brings, Heard, refuses, request, expiry, commandDone, isKnown}
-use Rattle.rules.specs.Step.{Answer, says, Stepped, anyOthers, covered, onCount, onItem, onClear, onRequest, onKnown, kindOk, onMessage, act, step, run, replyBytes}
-use Rattle.rules.specs.Laws.Tests.{both, either}
-use Rattle.rules.specs.Laws.Lists.{at-set}
-use Rattle.call_lists.specs.Uploads.{shownBy, answerTo, hears, letIn, actsOn, acts, Open, opened, taken, waited, passed, Completes, Empties, byCount, byClear, byClearAll, Stroke, uploaded, emptied as empties, chosen, advanced, nothing}
+use Rattle.rules.specs.Step.{Answer, says, Stepped, onCount, onItem, onRequest, onKnown, kindOk, onMessage, act, run, replyBytes}
+use Rattle.call_lists.specs.Uploads.{shownBy, answerTo, hears, letIn, acts, Open, opened, taken, waited, passed, Completes, Empties, byCount, byClear, byClearAll, Stroke, uploaded, emptied as empties, chosen, advanced, nothing}
 use Rattle.call_lists.specs.Laws.Lists.{run-snoc, same-self, same-station}
-use Rattle.call_lists.specs.Laws.Ranged.{Formed, known-below}
+use Rattle.rules.specs.Laws.Kinds.{known-below}
 use Rattle.call_lists.specs.Laws.Kept.{HeardKnown, heard-known, formed}
 use Rattle.call_lists.specs.Laws.Turns.{no, or-none, runOf, clear-denied, message-other, timer-other}
 use Rattle.call_lists.specs.Laws.Back.{same-run}
-use Rattle.call_lists.specs.Tracks.{one-more, Runs, open-runs}
+use Rattle.call_lists.specs.Tracks.{one-more, open-runs}
 use Rattle.call_lists.specs.Rules.{only-strokes, takes-effect, denies}
 
 -- a kind is among some kinds

@@ -1,28 +1,25 @@
 -- Demand 3 over the rules alone: what every list of calls from a fresh start makes of the model.
-use Prim.Native.Nat.{ℕ, _+_, _≤_, _<_}
+use Prim.Native.Nat.{ℕ, _+_, _≤_}
 use native.Mathlib.Omega.{arith}
 use mathlib.Core.Path.{_≡_, refl, sym, ap, subst, _∙_}
 use mathlib.Core.List.{List, [], _∷_, _++_}
 use mathlib.Core.Bool.{Bool, true, false, true≢false, not, cond, _&&_}
 use lib.ListN.{length}
-use lib.Dec.{eqb, leb, ltb}
-use borrow.Author.Tests.{eqb-true, eqb-false, eq-eqb, ne-eqb, leb-true, le-leb, ltb-true, ltb-false, le-ltb, not-false, not-true}
+use lib.Dec.{eqb, ltb}
+use borrow.Author.Tests.{eqb-true, eq-eqb, ne-eqb, leb-true, le-leb, ltb-true, le-ltb, not-false}
 use Rattle.rules.specs.Limits.{flight, rally, kinds, everyKind, sizeOf, accepted, denied, outOfRange, storeBytes, replyBytesMin, maxRepeats, expiryMs}
 use Rattle.rules.specs.Payload.{Bytes}
 use Rattle.rules.specs.Messages.{Station, sameStation, Item, Message, setCurrent, current, requestList, count, clearAll, ack, requestInt, itemInt, statustext, unknown, decode, itemOf}
 use Rattle.rules.specs.Items.{jumpsAmong, fault}
-use Rattle.rules.specs.Model.{Run, Upload, idle, running, Shown, Model, planOf, uploadOf, lengthOf, fresh, elapsed, expected, isLast, whole, wholeOk, isOthers, isOwn, put, empty, choose, inRange}
-use Rattle.rules.specs.NextCommand.{advance}
+use Rattle.rules.specs.Model.{Run, Upload, idle, running, Shown, Model, uploadOf, lengthOf, fresh, elapsed, expected, isLast, whole, wholeOk, isOthers, isOwn, put, empty}
 use Rattle.rules.specs.Calls.{Call, message, timer, done, oursOrAll, forUs, heardMessage, heard, Request, chooses, asksList, announces, clears, acknowledges, asksItem, brings, Heard, refuses, request, expiry, commandDone, isKnown}
-use Rattle.rules.specs.Step.{Answer, refused, silent, says, orders, isRefused, Stepped, onCount, takes, onItem, onAck, onClear, anyOthers, covered, onList, onRequest, onSetCurrent, onKnown, kindOk, onMessage, onTimer, act, step, run}
+use Rattle.rules.specs.Step.{Answer, refused, silent, says, orders, isRefused, Stepped, onCount, takes, onItem, onAck, onClear, anyOthers, covered, onList, onRequest, onSetCurrent, onKnown, kindOk, onMessage, onTimer, act, run}
 use Rattle.rules.specs.Laws.Tests.{either}
 use Rattle.rules.specs.Laws.Refused.{message-answered, timer-answered}
 use Rattle.call_lists.specs.Uploads.{shownBy, answerTo, hears, letIn, Open, Completes, Empties, byCount, byClear, byClearAll, Stroke, uploaded, emptied, chosen, advanced, nothing}
 use Rattle.call_lists.specs.Laws.Lists.{run-snoc, same-self, same-station}
-use Rattle.call_lists.specs.Laws.Ranged.{Formed, formed-ranged}
-use Rattle.call_lists.specs.Laws.Kept.{RunRanged, run-ranged, formed}
 use Rattle.call_lists.specs.Laws.Turns.{no, or-left, runOf}
-use Rattle.call_lists.specs.Tracks.{one-more, Runs, open-runs, runs-open}
+use Rattle.call_lists.specs.Tracks.{one-more, open-runs, runs-open}
 
 -- what is shown after one more call
 shown-after : (pre : List Call) (c : Call) → shownBy (pre ++ (c ∷ [])) ≡ act (run fresh pre) (hears c) .model .shown

@@ -1,18 +1,18 @@
 -- Demand 3: one statement over every list of calls, each lent the state and a front part of the store as the last one left them.
-use Prim.Native.Nat.{ℕ, _≤_, _<_}
+use Prim.Native.Nat.{ℕ, _≤_}
 use mathlib.Core.Path.{_≡_, refl, sym, ap, ap₂, subst, _∙_}
 use mathlib.Core.List.{List, [], _∷_, _++_, map}
 use mathlib.Core.Bool.{Bool, true, false}
 use lib.ListN.{length}
-use lib.Dec.{eqb, ltb}
-use borrow.Author.Tests.{ltb-true, ltb-false, lt-ltb}
+use lib.Dec.{ltb}
+use borrow.Author.Tests.{ltb-false}
 use Rattle.rules.specs.Limits.{rally, storeBytes, sizeOf, outOfRange, shortStore}
 use Rattle.rules.specs.Limits
 use Rattle.rules.specs.Payload.{Bytes}
 use Rattle.rules.specs.Messages.{Station, ack}
 use Rattle.rules.specs.Model.{Model, fresh, inRange, put, empty}
 use Rattle.rules.specs.NextCommand.{Command}
-use Rattle.rules.specs.Calls.{Call, message, timer, done, announces, Heard, refuses, request, heard}
+use Rattle.rules.specs.Calls.{Call, message, timer, done, announces, request, heard}
 use Rattle.rules.specs.Step.{Answer, refused, says, outcomeOf, replyId, replyBytes, commandIn, isRefused, Stepped, act, step, run, answers}
 use Rattle.refine.specs.Promise.{Result, Serves}
 use Rattle.call_lists.specs.Uploads.{shownBy, answerTo, hears, letIn, Open, Completes, Empties, Stroke}

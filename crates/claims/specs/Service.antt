@@ -1,5 +1,5 @@
 -- Demand 3 of the service's own state, store and calls.
-use mathlib.Core.Path.{_≡_, sym, _∙_}
+use mathlib.Core.Path.{sym, _∙_}
 use Rattle.plan.specs.declared.State.{State}
 use Rattle.plan.specs.View.{view, freshState, fresh-view}
 use Rattle.plan.specs.Ranges.{ranged-view}

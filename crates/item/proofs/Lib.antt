@@ -1,7 +1,6 @@
--- Laws that several functions' proofs cite. Valid has those on valid items, for the callers' proofs.
+-- Laws that several functions' proofs cite.
 pub mod NumberTests
 pub mod FloatTests
 pub mod Reading
 pub mod Integers
 pub mod Lookup
-pub mod Valid

@@ -1,15 +1,15 @@
 -- A front part of the store that is long enough shows what the whole store shows, for a state in its ranges.
-use Prim.Native.Nat.{ℕ, zero, suc, _+_, _≤_, _<_}
+use Prim.Native.Nat.{ℕ, zero, suc, _+_, _≤_}
 use native.Mathlib.Omega.{arith}
-use mathlib.Core.Path.{_≡_, refl, sym, ap, ap₂, subst, _∙_}
+use mathlib.Core.Path.{_≡_, refl, ap, ap₂, _∙_}
 use mathlib.Core.List.{List, [], _∷_, _++_}
-use mathlib.Core.Bool.{Bool, true, false, not}
+use mathlib.Core.Bool.{Bool, true, not}
 use lib.ListN.{length, take, drop, length-drop}
 use lib.Seq.{take-append-le, drop-append-le}
 use borrow.Author.Tests.{leb-true}
 use Rattle.rules.specs.Limits.{flight, fence, rally, sizeOf, itemBytes, storeBytes}
 use Rattle.rules.specs.Payload.{Bytes}
-use Rattle.rules.specs.Model.{running, uploadInRange, inRange}
+use Rattle.rules.specs.Model.{running, inRange}
 use Rattle.rules.specs.Calls.{isKnown}
 use Rattle.plan.specs.declared.State.{State}
 use Rattle.plan.specs.declared.Upload.{Upload}

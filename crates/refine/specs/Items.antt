@@ -1,21 +1,20 @@
 -- An item commutes with the view: what is written to the other half shows only as the upload's next item.
-use Prim.Native.Nat.{ℕ, zero, suc, _+_, _≤_, _<_}
+use Prim.Native.Nat.{ℕ, _+_, _≤_, _<_}
 use native.Mathlib.Omega.{arith}
 use native.Mathlib.Numerals.{add-one}
 use native.Mathlib.Nat.{le-of-eq}
 use native.Mathlib.Decide.{ℕ-discrete}
 use mathlib.Core.Path.{_≡_, refl, sym, ap, subst, _∙_}
-use mathlib.Core.List.{List, [], _∷_, _++_, map}
-use mathlib.Core.Bool.{Bool, true, false, not, cond, _&&_, Bool·not-not}
+use mathlib.Core.List.{List, [], _∷_, _++_}
+use mathlib.Core.Bool.{Bool, true, not, cond, _&&_, Bool·not-not}
 use lib.ListN.{length, set}
 use lib.Dec.{eqb, leb, ltb}
-use borrow.Author.Tests.{leb-true, le-leb, ltb-true, eqb-true, eqb-false, not-false, not-true}
-use Rattle.rules.specs.Limits.{flight, fence, rally, kinds, sizeOf, itemBytes, storeBytes, maxRepeats, accepted, invalid, invalidSequence, denied}
+use borrow.Author.Tests.{leb-true, ltb-true, eqb-true, not-false}
+use Rattle.rules.specs.Limits.{flight, fence, rally, kinds, sizeOf, storeBytes, maxRepeats, accepted, invalid, invalidSequence, denied}
 use Rattle.rules.specs.Payload.{Bytes}
 use Rattle.rules.specs.Messages.{Station, Item, ack, itemOf}
-use Rattle.rules.specs.Items.{jumpsAmong, fault}
 use Rattle.rules.specs.Model as model
-use Rattle.rules.specs.Model.{Model, idle, running, expected, isLast, whole, wholeOk, nextNumber, withPlan, uploadInRange, inRange}
+use Rattle.rules.specs.Model.{Model, idle, running, expected, whole, wholeOk, nextNumber, withPlan, uploadInRange, inRange}
 use Rattle.rules.specs.Calls.{isKnown}
 use Rattle.rules.specs.Step.{Stepped, Answer, says, acks, requests, takes, onItem}
 use Rattle.rules.specs.Step as rule
@@ -31,12 +30,11 @@ use Rattle.plan.specs.Places.{itemsIn, length-items}
 use Rattle.plan.specs.Writes.{putAt, Apart, otherHalf, otherKind, beyond, items-apart, items-more}
 use Rattle.plan.specs.View.{planOf, planIn, runIn, uploadIn, view}
 use Rattle.upload.specs.declared.Say.{Say}
-use Rattle.upload.specs.declared.Say.the-variants.{Silent, Ack, Ask}
-use Rattle.upload.specs.declared.Turned.{Turned}
-use Rattle.upload.specs.Turns.{withUpload, ended, replaced, tookOne, isFrom, keeps, renews, Took, took, stored, takesItem, itemVerdict, itemTook}
-use Rattle.engine.specs.Whole.{Done, answerOf, turnedState, turns, itemDone}
+use Rattle.upload.specs.declared.Say.the-variants.{Ack, Ask}
+use Rattle.upload.specs.Turns.{withUpload, ended, replaced, tookOne, isFrom, keeps, renews, Took, took, takesItem, itemVerdict, itemTook}
+use Rattle.engine.specs.Whole.{answerOf, turns, itemDone}
 use Rattle.refine.specs.Views.{plan-shown, upload-shown, length-shown, view-upload, view-renewed}
-use Rattle.refine.specs.Turned.{Agree, Agrees, kept, ends, runs}
+use Rattle.refine.specs.Turned.{Agree, kept, ends, runs}
 
 -- an upload in its ranges, over the state's records
 record RunRanged (k : ℕ) (r : Run) : Type 0 where

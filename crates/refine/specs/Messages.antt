@@ -1,33 +1,32 @@
 -- Every message commutes with the view.
-use Prim.Native.Nat.{ℕ, zero, suc, _+_, _≤_, _<_}
+use Prim.Native.Nat.{ℕ, _≤_, _<_}
 use native.Mathlib.Omega.{arith}
-use mathlib.Core.Path.{_≡_, refl, sym, ap, subst, _∙_}
-use mathlib.Core.List.{List, [], _∷_, _++_}
-use mathlib.Core.Bool.{Bool, true, false, not, cond, _&&_, _||_, and-true, or-false}
-use lib.ListN.{length, getD, set, length-set, List·getD-eq-default}
-use lib.Dec.{eqb, leb, ltb}
+use mathlib.Core.Path.{_≡_, refl, sym, ap, _∙_}
+use mathlib.Core.List.{List, [], _∷_}
+use mathlib.Core.Bool.{Bool, true, false, not, cond, _&&_, _||_}
+use lib.ListN.{length, getD, length-set, List·getD-eq-default}
+use lib.Dec.{eqb, ltb}
 use borrow.Author.Tests.{ltb-true, leb-false}
-use Rattle.rules.specs.Limits.{flight, fence, rally, everyKind, kinds, sizeOf, storeBytes, accepted, unsupported, invalidSequence, denied}
+use Rattle.rules.specs.Limits.{flight, fence, rally, kinds, storeBytes, accepted}
 use Rattle.rules.specs.Payload.{Bytes}
-use Rattle.rules.specs.Messages.{Station, Item, ack, count, itemInt, itemIn}
+use Rattle.rules.specs.Messages.{Station, count, itemInt, itemIn}
 use Rattle.rules.specs.Model as model
-use Rattle.rules.specs.Model.{Model, idle, every, isOthers, isOwn, shownNumber, choose, withPlan, inRange}
+use Rattle.rules.specs.Model.{Model, idle, every, isOthers, isOwn, shownNumber, choose, inRange}
 use Rattle.rules.specs.Calls.{Request, chooses, asksList, announces, clears, acknowledges, asksItem, brings, isKnown}
-use Rattle.rules.specs.Step.{Stepped, Answer, says, silent, acks, idleAt, covered, anyOthers, currentOf, refusalText, onClear, onList, onRequest, onSetCurrent, onKnown, kindOk, onMessage, onAck}
+use Rattle.rules.specs.Step.{says, silent, idleAt, covered, anyOthers, onClear, onList, onRequest, onSetCurrent, onKnown, kindOk, onMessage, onAck}
 use Rattle.rules.specs.Laws.Tests.{both, either, either₂}
 use Rattle.rules.specs.Laws.Kinds.{covered-known}
 use Rattle.plan.specs.declared.State.{State}
 use Rattle.plan.specs.declared.Plan.{Plan}
 use Rattle.plan.specs.declared.Upload.{Upload}
-use Rattle.plan.specs.declared.Upload.the-variants.{Idle, Running}
-use Rattle.plan.specs.Places.{itemsIn, itemAt, length-items, items-at}
-use Rattle.plan.specs.View.{emptyPlan, planOf, planIn, uploadIn, view}
-use Rattle.upload.specs.declared.Say.the-variants.{Silent, Ack, Ask}
+use Rattle.plan.specs.Places.{itemAt, length-items, items-at}
+use Rattle.plan.specs.View.{emptyPlan, planOf, view}
+use Rattle.upload.specs.declared.Say.the-variants.{Silent}
 use Rattle.upload.specs.declared.Turned.{Turned}
 use Rattle.upload.specs.Turns.{emptied, renews, othersUpload, ackTurned, ownUpload, keeps, ended}
-use Rattle.engine.specs.Whole.{Done, answerOf, gives, turnedState, turns, clearedState, othersAmong, clearDone, numberShown, listDone, requestDone, chosenState, chooseDone, knownDone, messageDone}
-use Rattle.refine.specs.Views.{plan-shown, upload-shown, length-shown, same-state, view-renewed}
-use Rattle.refine.specs.Turned.{Agree, others-shown, own-shown, empties, count-agrees, ack-agrees}
+use Rattle.engine.specs.Whole.{answerOf, turnedState, turns, clearedState, othersAmong, clearDone, numberShown, listDone, requestDone, chosenState, chooseDone, knownDone, messageDone}
+use Rattle.refine.specs.Views.{plan-shown, upload-shown, length-shown, same-state}
+use Rattle.refine.specs.Turned.{Agree, others-shown, empties, count-agrees, ack-agrees}
 use Rattle.refine.specs.Items.{item-agrees}
 
 -- ---- clears

@@ -1,7 +1,7 @@
 -- The promise of every call, `Serves`, over any type of states and what they show.
 use Prim.Native.Nat.{ℕ, _≤_}
 use mathlib.Core.Path.{_≡_}
-use mathlib.Core.List.{List, [], _++_}
+use mathlib.Core.List.{_++_}
 use mathlib.Core.Bool.{Bool, true, false, not, cond}
 use lib.ListN.{length, getD, drop}
 use lib.Dec.{eqb}
@@ -10,7 +10,7 @@ use Rattle.rules.specs.Payload.{Bytes}
 use Rattle.rules.specs.Model.{Model, planOf}
 use Rattle.rules.specs.NextCommand.{Command}
 use Rattle.rules.specs.Calls.{Call}
-use Rattle.rules.specs.Step.{Answer, isRefused, outcomeOf, replyId, replyBytes, commandIn, step}
+use Rattle.rules.specs.Step.{isRefused, outcomeOf, replyId, replyBytes, commandIn, step}
 
 -- what a call returns: the new state, the outcome, the reply's id and length, and the command of a "command done" call (Stuck for any other call)
 pub record Result (State : Type 0) : Type 0 where

@@ -1,23 +1,23 @@
 -- What the engine's step keeps of the promise: the model, the answer, halves, and every byte beside the next place of an upload.
-use Prim.Native.Nat.{ℕ, zero, suc, _+_, _≤_, _<_}
+use Prim.Native.Nat.{ℕ, _+_, _≤_, _<_}
 use native.Mathlib.Omega.{arith}
 use mathlib.Core.Path.{_≡_, refl, sym, ap, ap₂, subst, _∙_}
 use mathlib.Core.Logic.{_⊎_, inl, inr, ⊎-elim}
-use mathlib.Core.List.{List, [], _∷_, _++_}
-use mathlib.Core.Bool.{Bool, true, false, true≢false, not, cond, _&&_, _||_}
-use lib.ListN.{length, getD, set, length-set}
+use mathlib.Core.List.{List, [], _∷_}
+use mathlib.Core.Bool.{Bool, true, false, true≢false, not, cond, _&&_}
+use lib.ListN.{length, getD, length-set}
 use lib.Dec.{eqb, leb, ltb}
-use borrow.Author.Tests.{leb-true, le-leb, eq-eqb, ne-eqb, eqb-true, eqb-false, ltb-true, ltb-false, leb-false}
-use Rattle.rules.specs.Limits.{flight, rally, kinds, everyKind, sizeOf, itemBytes, storeBytes, accepted, maxRepeats, expiryMs, lastNumber}
+use borrow.Author.Tests.{leb-true, le-leb, eq-eqb, ne-eqb, eqb-true, ltb-false, leb-false}
+use Rattle.rules.specs.Limits.{flight, rally, kinds, sizeOf, itemBytes, storeBytes, accepted, maxRepeats, expiryMs, lastNumber}
 use Rattle.rules.specs.Payload.{Bytes}
 use Rattle.rules.specs.Messages.{Station, Item, itemOf}
 use Rattle.rules.specs.Model as model
 use Rattle.rules.specs.Model.{Model, nextNumber, elapsed, wholeOk, every, inRange}
 use Rattle.rules.specs.Calls.{Call, Request, chooses, asksList, announces, clears, acknowledges, asksItem, brings, Heard, refuses, request, expiry, commandDone, isKnown, heard}
 use Rattle.rules.specs.NextCommand.{next, answerOf, advance}
-use Rattle.rules.specs.Step.{Answer, refused, orders, isRefused, Stepped, covered, kindOk, onMessage, onTimer, act, step}
+use Rattle.rules.specs.Step.{refused, orders, isRefused, Stepped, covered, kindOk, act, step}
 use Rattle.rules.specs.Laws.Tests.{both, either}
-use Rattle.rules.specs.Laws.Kinds.{covered-known}
+use Rattle.rules.specs.Laws.Kinds.{covered-known, known-below}
 use Rattle.rules.specs.Laws.Lists.{at-set}
 use Rattle.rules.specs.Laws.Layout.{length-itemOf}
 use Rattle.rules.specs.Laws.Refused.{message-answered, timer-answered}
@@ -26,14 +26,14 @@ use Rattle.plan.specs.declared.Plan.{Plan}
 use Rattle.plan.specs.declared.Run.{Run}
 use Rattle.plan.specs.declared.Upload.{Upload}
 use Rattle.plan.specs.declared.Upload.the-variants.{Idle, Running}
-use Rattle.plan.specs.Part.{length-put, getD-put-before, getD-put-after}
+use Rattle.plan.specs.Part.{getD-put-before, getD-put-after}
 use Rattle.plan.specs.Places.{itemsIn, offsetOf, offset-within}
-use Rattle.plan.specs.Writes.{putAt, length-stays}
+use Rattle.plan.specs.Writes.{length-stays}
 use Rattle.plan.specs.View.{emptyPlan, planOf, view}
 use Rattle.upload.specs.declared.Say.the-variants.{Silent}
 use Rattle.upload.specs.declared.Turned.{Turned}
-use Rattle.upload.specs.Turns.{ended, emptied, keeps, renews, isFrom, othersUpload, ownUpload, countTurned, ackTurned, timerTurned, Took, takesItem, itemVerdict, itemTook, stored}
-use Rattle.engine.specs.Whole.{Done, gives, turnedState, turns, clearedState, othersAmong, clearDone, listDone, requestDone, chooseDone, knownDone, messageDone, timerDone}
+use Rattle.upload.specs.Turns.{ended, emptied, renews, isFrom, othersUpload, ownUpload, countTurned, ackTurned, timerTurned, Took, takesItem, itemVerdict, itemTook, stored}
+use Rattle.engine.specs.Whole.{Done, gives, turnedState, clearedState, othersAmong, clearDone, listDone, requestDone, chooseDone, knownDone, messageDone, timerDone}
 use Rattle.refine.specs.Views.{plan-shown}
 use Rattle.refine.specs.Turned.{Agree, timer-agrees}
 use Rattle.refine.specs.Items.{next-below}
@@ -115,9 +115,6 @@ HalvesOk st st′ = (j : ℕ) → isKnown j ≡ true → HalfOk (planOf st j) (p
 
 halves-same : (st : State) → HalvesOk st st
 halves-same st j known = same-ok (planOf st j)
-
-known-below : (k : ℕ) → isKnown k ≡ true → k < length kinds
-known-below k known = let le : k ≤ rally = leb-true k rally known in omega arith
 
 turned-plan : (st : State) → length (st .plans) ≡ length kinds → (k j : ℕ) (t : Turned) → isKnown k ≡ true → planOf (turnedState st k t) j ≡ cond (eqb k j) (t .plan) (planOf st j)
 unfolding turnedState

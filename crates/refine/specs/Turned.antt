@@ -1,15 +1,15 @@
 -- Each turn of one kind commutes with the view: COUNT, ACK and the timer.
-use Prim.Native.Nat.{ℕ, zero, suc, _+_, _≤_, _<_}
-use mathlib.Core.Path.{_≡_, refl, sym, ap, subst, _∙_}
-use mathlib.Core.List.{List, [], _∷_, _++_}
-use mathlib.Core.Bool.{Bool, true, false, not, cond, _&&_}
+use Prim.Native.Nat.{ℕ}
+use mathlib.Core.Path.{_≡_, refl, sym, ap, _∙_}
+use mathlib.Core.List.{[], _∷_}
+use mathlib.Core.Bool.{Bool, true, not, _&&_}
 use lib.ListN.{length, set}
 use lib.Dec.{eqb, ltb}
 use Rattle.rules.specs.Limits.{kinds, sizeOf, maxRepeats, expiryMs, accepted, noSpace, denied, cancelled}
 use Rattle.rules.specs.Payload.{Bytes}
 use Rattle.rules.specs.Messages.{Station}
 use Rattle.rules.specs.Model as model
-use Rattle.rules.specs.Model.{Model, idle, running, elapsed, isOthers, isOwn, withPlan}
+use Rattle.rules.specs.Model.{idle, running, elapsed, isOthers, isOwn, withPlan}
 use Rattle.rules.specs.Calls.{isKnown}
 use Rattle.rules.specs.Step.{Stepped, Answer, silent, acks, requests, onCount, onAck, onTimer}
 use Rattle.rules.specs.Laws.Tests.{either₂}
@@ -19,12 +19,12 @@ use Rattle.plan.specs.declared.Run.{Run}
 use Rattle.plan.specs.declared.Upload.{Upload}
 use Rattle.plan.specs.declared.Upload.the-variants.{Idle, Running}
 use Rattle.plan.specs.Places.{itemsIn, length-items}
-use Rattle.plan.specs.View.{planOf, planIn, runIn, uploadIn, view}
+use Rattle.plan.specs.View.{planOf, runIn, uploadIn, view}
 use Rattle.upload.specs.declared.Say.{Say}
 use Rattle.upload.specs.declared.Say.the-variants.{Silent, Ack, Ask}
 use Rattle.upload.specs.declared.Turned.{Turned}
-use Rattle.upload.specs.Turns.{stationOf, withUpload, ended, emptied, started, askedAgain, isFrom, othersUpload, ownUpload, keeps, renews, countTurned, ackTurned, timerTurned}
-use Rattle.engine.specs.Whole.{Done, answerOf, turnedState, turns, timerDone}
+use Rattle.upload.specs.Turns.{stationOf, withUpload, ended, emptied, started, askedAgain, othersUpload, ownUpload, keeps, renews, countTurned, ackTurned, timerTurned}
+use Rattle.engine.specs.Whole.{Done, answerOf, turns, timerDone}
 use Rattle.refine.specs.Views.{plan-shown, upload-shown, same-state, view-upload, view-renewed}
 
 -- the engine's step shows the rules' model, and gives the rules' answer

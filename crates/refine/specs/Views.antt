@@ -1,35 +1,27 @@
 -- What the view shows of one kind, and how it changes with one plan.
-use Prim.Native.Nat.{ℕ, zero, suc, _+_, _≤_, _<_}
-use native.Mathlib.Omega.{arith}
-use mathlib.Core.Path.{_≡_, refl, sym, ap, subst, _∙_}
-use mathlib.Core.List.{List, [], _∷_, _++_, map}
-use mathlib.Core.Bool.{Bool, true, false, not, cond, _&&_}
+use Prim.Native.Nat.{ℕ}
+use mathlib.Core.Path.{_≡_, refl, ap, _∙_}
+use mathlib.Core.List.{List, map}
+use mathlib.Core.Bool.{true, false, not, cond, _&&_}
 use lib.ListN.{length, getD, set}
 use lib.Seq.{set-getD}
 use lib.Dec.{eqb}
-use borrow.Author.Tests.{leb-true}
 use Rattle.rules.specs.Limits.{flight, fence, rally, kinds}
 use Rattle.rules.specs.Payload.{Bytes}
-use Rattle.rules.specs.Messages.{Station}
 use Rattle.rules.specs.Model as model
 use Rattle.rules.specs.Model.{Model, withPlan}
 use Rattle.rules.specs.Calls.{isKnown}
-use Rattle.rules.specs.Laws.Kinds.{each-kind}
+use Rattle.rules.specs.Laws.Kinds.{each-kind, known-below}
 use Rattle.rules.specs.Laws.Lists.{at-set}
 use Rattle.plan.specs.declared.State.{State}
 use Rattle.plan.specs.declared.Plan.{Plan}
-use Rattle.plan.specs.declared.Run.{Run}
 use Rattle.plan.specs.declared.Upload.{Upload}
-use Rattle.plan.specs.declared.Upload.the-variants.{Idle, Running}
-use Rattle.plan.specs.Places.{itemsIn, length-items}
-use Rattle.plan.specs.View.{emptyPlan, planOf, planIn, runIn, uploadIn, view}
+use Rattle.plan.specs.Places.{length-items}
+use Rattle.plan.specs.View.{emptyPlan, planOf, planIn, uploadIn, view}
 use Rattle.upload.specs.declared.Say.{Say}
 use Rattle.upload.specs.declared.Turned.{Turned}
 use Rattle.upload.specs.Turns.{withUpload, keeps, renews}
 use Rattle.engine.specs.Whole.{turnedState}
-
-known-below : (k : ℕ) → isKnown k ≡ true → k < length kinds
-known-below k known = let le : k ≤ rally = leb-true k rally known in omega arith
 
 module _ (st : State) (s : Bytes) where
   -- the plan and the upload of a kind, as shown

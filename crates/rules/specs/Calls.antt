@@ -1,6 +1,6 @@
 -- The calls, the refusals in their order, and what a call that is not refused says.
 use Prim.Native.Nat.{ℕ}
-use mathlib.Core.Bool.{Bool, true, false, not, cond, _&&_, _||_}
+use mathlib.Core.Bool.{Bool, not, cond, _&&_, _||_}
 use lib.ListN.{length}
 use lib.Dec.{eqb, leb, ltb}
 use Rattle.rules.specs.Limits.{flight, rally, storeBytes, replyBytesMin, shortStore, outOfRange, shortReply, emptyPayload, notRead, notForUs}

@@ -3,7 +3,7 @@ pub mod Starred
 pub mod Readings
 use Prim.Native.Nat.{ℕ}
 use mathlib.Core.Path.{_≡_}
-use mathlib.Core.List.{List, [], _∷_, map}
+use mathlib.Core.List.{List, map}
 use lib.Ieee.{ofBits}
 use Rattle.rules.specs.Limits.{storeBytes, replyBytesMin, flight, fence, rally}
 use Rattle.rules.specs.Payload.{Bytes, numberAt, bytesOf, significant, trim}

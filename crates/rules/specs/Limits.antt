@@ -1,8 +1,8 @@
 -- Document 01's sizes, limits and numbers, each named once. Everything else cites these names.
-use Prim.Native.Nat.{ℕ, _+_, _-_, _*_, _^_}
+use Prim.Native.Nat.{ℕ, _-_, _*_, _^_}
 use mathlib.Core.List.{List, [], _∷_}
 use lib.ListN.{getD}
-use lib.IntN.{ℤ, pos, negsuc}
+use lib.IntN.{ℤ, negsuc}
 
 -- ---- kinds: "flight (0), fence (1), rally (2)"; "255 in CLEAR_ALL"
 

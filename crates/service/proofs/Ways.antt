@@ -11,8 +11,8 @@ use Rattle.rules.specs.Messages.{Station, decode}
 use Rattle.rules.specs.Model as model
 use Rattle.rules.specs.Model.{inRange}
 use Rattle.rules.specs.NextCommand as rules
-use Rattle.rules.specs.Calls.{Call, message, timer, done, request, expiry, heard}
-use Rattle.rules.specs.Step.{Answer, orders, commandIn, onMessage, onTimer}
+use Rattle.rules.specs.Calls.{message, timer, done, heard}
+use Rattle.rules.specs.Step.{orders, commandIn, onMessage, onTimer}
 use Rattle.rules.specs.Laws.Refused.{plain-stuck, message-plain, timer-plain}
 use Rattle.wire.specs.Table.{isRead, kindOf}
 use Rattle.plan.specs.declared.State.{State}
@@ -25,7 +25,7 @@ use Rattle.messages.specs.Answered.{AnsweredBy, Handled}
 use Rattle.next_command.specs.declared.Advance.{Advance}
 use Rattle.next_command.specs.Advanced as moved
 use Rattle.refine.specs.Steps.{message-steps, timer-steps, done-steps}
-use Rattle.refine.specs.Turned.{Agree, timer-agrees}
+use Rattle.refine.specs.Turned.{timer-agrees}
 use Rattle.refine.specs.Messages.{message-agrees}
 use Rattle.service.specs.Calls.{Serves, served, advanced, Gives, steps-serve}
 use Rattle.service.specs.declared.Advanced.{Advanced}

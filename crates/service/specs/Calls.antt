@@ -1,19 +1,18 @@
 -- The promise of the public calls: `Serves` at the service's own state, and what each call returns as a result.
 use Prim.Native.Nat.{ℕ}
 use mathlib.Core.Path.{_≡_, refl, sym, ap, ap₂, _∙_}
-use mathlib.Core.List.{List, [], _++_}
-use mathlib.Core.Bool.{Bool, true}
+use mathlib.Core.List.{_++_}
+use mathlib.Core.Bool.{Bool}
 use lib.ListN.{length, getD, drop}
-use Rattle.rules.specs.Limits.{kinds, noReply}
 use Rattle.rules.specs.Payload.{Bytes}
 use Rattle.rules.specs.Model.{inRange}
 use Rattle.rules.specs.NextCommand as rules
-use Rattle.rules.specs.Calls.{Call, Heard, refuses, request, expiry, commandDone, heard}
-use Rattle.rules.specs.Step.{Answer, refused, orders, outcomeOf, replyId, replyBytes, commandIn, step}
+use Rattle.rules.specs.Calls.{Call, refuses, heard}
+use Rattle.rules.specs.Step.{Answer, refused, outcomeOf, replyId, replyBytes, commandIn}
 use Rattle.plan.specs.declared.State.{State}
 use Rattle.plan.specs.View.{view}
 use Rattle.engine.specs.Whole.{Done, gives}
-use Rattle.refusal.specs.Refusals.{refusalOf}
+use Rattle.refusal.specs.Refusals.{refusalOf, refused-with}
 use Rattle.messages.specs.declared.Served.{Served}
 use Rattle.next_command.specs.Orders.{orderOf}
 use Rattle.refine.specs.Promise as promise
@@ -61,20 +60,12 @@ steps-serve c st s s′ b b′ d r steps gives-it =
       long = ap length (gives-it .store) ∙ steps .long;
     }
 
--- a number that refuses is the outcome of a refused call
-refused-heard : (h : Heard) → (refusalOf h ≡ 0 → ⊥) → h ≡ refuses (refusalOf h)
-refused-heard (refuses outcome) other = refl
-refused-heard (request from now kind r) other = absurd (other refl)
-refused-heard (expiry now kind) other = absurd (other refl)
-refused-heard commandDone other = absurd (other refl)
-
 -- a refused call
 pub refused-serves :
     (c : Call) (st : State) (s b : Bytes) (ranged : Bool) (outcome : ℕ) → ranged ≡ inRange (view st s) → outcome ≡ refusalOf (heard ranged c) → (outcome ≡ 0 → ⊥)
     → Serves c st s s b b (record { state = st; outcome = outcome; id = 0; len = 0; command = rules.stuck })
 refused-serves c st s b ranged outcome in-range e other =
-    let says : heard ranged c ≡ refuses outcome =
-    refused-heard (heard ranged c) (λ none. other (e ∙ none)) ∙ ap refuses (sym e) in
+    let says : heard ranged c ≡ refuses outcome = refused-with (heard ranged c) outcome (sym e) other in
     steps-serve c st s s b b (gives st s (refused outcome)) (record { state = st; outcome = outcome; id = 0; len = 0; command = rules.stuck })
     (refused-steps c st s outcome (ap (λ (t : Bool). heard t c) (sym in-range) ∙ says))
     (record { state = refl; store = refl; outcome = refl; id = refl; len = refl; command = refl; buffer = refl })

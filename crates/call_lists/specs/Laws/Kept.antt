@@ -1,19 +1,19 @@
 -- Every call keeps the ranges, handler by handler.
-use Prim.Native.Nat.{ℕ, zero, suc, _+_, _≤_, _<_}
+use Prim.Native.Nat.{ℕ, _+_, _≤_, _<_}
 use native.Mathlib.Omega.{arith}
-use mathlib.Core.Path.{_≡_, refl, sym, ap, subst, _∙_}
-use mathlib.Core.List.{List, [], _∷_, _++_}
-use mathlib.Core.Bool.{Bool, true, false, not, cond, _&&_, _||_, and-true, or-false}
+use mathlib.Core.Path.{_≡_, refl, ap}
+use mathlib.Core.List.{List, [], _∷_}
+use mathlib.Core.Bool.{Bool, true, false, not, _&&_}
 use lib.ListN.{length, length-append, List·getD-eq-default}
 use lib.Dec.{eqb, leb, ltb}
 use borrow.Author.Tests.{leb-true, leb-false, ltb-true, ltb-false, le-leb, lt-ltb, eqb-true, eqb-false, not-false, not-true}
-use Rattle.rules.specs.Limits.{flight, rally, kinds, everyKind, sizeOf, maxRepeats, expiryMs, accepted, storeBytes, replyBytesMin}
+use Rattle.rules.specs.Limits.{flight, rally, sizeOf, maxRepeats, expiryMs, accepted, storeBytes, replyBytesMin}
 use Rattle.rules.specs.Payload.{Bytes}
 use Rattle.rules.specs.Messages.{Station, sameStation, Item, Message, setCurrent, current, requestList, count, clearAll, ack, requestInt, itemInt, statustext, unknown, decode, itemOf}
 use Rattle.rules.specs.Items.{jumpsAmong, fault}
-use Rattle.rules.specs.Model.{Plan, Run, Upload, idle, running, Model, planOf, uploadOf, lengthOf, fresh, nextNumber, elapsed, expected, isLast, whole, wholeOk, isOthers, isOwn, withPlan, put, empty, choose, every, uploadInRange, inRange}
+use Rattle.rules.specs.Model.{Plan, Run, Upload, idle, running, Model, planOf, uploadOf, lengthOf, fresh, nextNumber, elapsed, expected, isLast, whole, wholeOk, isOthers, isOwn, withPlan, put, uploadInRange, inRange}
 use Rattle.rules.specs.Calls.{Call, message, timer, done, Request, chooses, asksList, announces, clears, acknowledges, asksItem, brings, Heard, refuses, request, expiry, commandDone, isKnown, oursOrAll, heardMessage, forUs, heard}
-use Rattle.rules.specs.Step.{Stepped, withUpload, idleAt, onCount, replaced, takes, onItem, onAck, onClear, anyOthers, covered, onList, onRequest, onSetCurrent, onKnown, kindOk, onMessage, onTimer, act, step, run}
+use Rattle.rules.specs.Step.{Stepped, withUpload, onCount, takes, onItem, onAck, onClear, anyOthers, covered, onList, onRequest, onSetCurrent, onKnown, kindOk, onMessage, onTimer, act, step, run}
 use Rattle.rules.specs.Laws.Tests.{both, either}
 use Rattle.rules.specs.Laws.Kinds.{covered-known}
 use Rattle.call_lists.specs.Laws.Ranged.{Formed, fresh-formed, formed-ranged, upload-formed, plan-formed, empty-formed, choose-formed}

@@ -9,10 +9,9 @@ use Rattle.rules.specs.Limits.{flight, fence, rally, everyKind, storeByt
 use Rattle.rules.specs.Payload.{Bytes, trim}
 use Rattle.rules.specs.Layouts.{currentId, countId, clearAllId, ackId, requestIntId, statustextId}
 use Rattle.rules.specs.Messages.{station, Item, count, ack, current, requestInt, itemInt, itemOf}
-use Rattle.rules.specs.Items.{fault}
-use Rattle.rules.specs.Model.{Model, Shown, Plan, Upload, idle, running, fresh, uploadOf, elapsed, emptied, empty}
+use Rattle.rules.specs.Model.{Model, Shown, Plan, Upload, idle, running, fresh, uploadOf, elapsed}
 use Rattle.rules.specs.Calls.{Call, message, timer, done}
-use Rattle.rules.specs.Step.{Answer, refused, silent, says, refusalText, takes, run, replyBytes}
+use Rattle.rules.specs.Step.{Answer, refused, silent, says, refusalText, run, replyBytes}
 use Rattle.rules.specs.Cases.{computing, Case, number, bytes, answer, shown, upload, _is_, Hold, vehicle, tablet, neighbour, sends, sendsCount, sendsItem, sendsAck, sendsClear, asksForList, asksForItem, setsCurrent, ticks, finishes, after, f2, f3, f4, fNaN, fMinusZero, fMinusOne, itemAs, waypoint, jumpTo, vertex, circle}
 
 -- ---- what the cases start from

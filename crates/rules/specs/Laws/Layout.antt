@@ -1,7 +1,7 @@
 -- The table of layouts: each row's fields follow one another from 0 to its full length, and what is packed by them is read back.
-use Prim.Native.Nat.{ℕ, zero, suc, _+_, _^_, _<_}
+use Prim.Native.Nat.{ℕ, _+_, _^_, _<_}
 use mathlib.Core.Path.{_≡_, refl, sym, ap, ap₂, subst, _∙_}
-use mathlib.Core.List.{List, [], _∷_, _++_, append-assoc, append-nil}
+use mathlib.Core.List.{List, [], _∷_, _++_, append-assoc}
 use mathlib.Core.Bool.{Bool, true, false, cond, _&&_}
 use native.Mathlib.Nat.{add-zero, zero-add}
 use native.Mathlib.Omega.{arith}
@@ -13,7 +13,7 @@ use Rattle.rules.specs.Payload.{Bytes, numberAt, bytesOf}
 use Rattle.rules.specs.Layouts.{Field, Layout, layouts, layoutOf, find, values, pack}
 use Rattle.rules.specs.Messages.{station, Item, Message, itemInt, idOf, valuesOf, encode, itemOf}
 use Rattle.rules.specs.Laws.Tests.{both}
-use Rattle.rules.specs.Laws.Numbers.{length-bytesOf, numberAt-agree, numberAt-fits, numberAt-bytesOf}
+use Rattle.rules.specs.Laws.Numbers.{length-bytesOf, numberAt-fits, numberAt-bytesOf}
 
 -- the fields follow one another from `at` to `full`
 abbrev pub follow : (at full : ℕ) → List Field → Bool

@@ -1,25 +1,24 @@
 -- Every reply of the step has fields that fit, where the model and the call fit: one lemma for each message written, one for each handler.
 use Prim.Native.Nat.{ℕ, zero, suc, _+_, _^_, _≤_, _<_}
 use native.Mathlib.Omega.{arith}
-use native.Mathlib.Nat.{le-trans}
-use mathlib.Core.Path.{_≡_, refl, sym, ap, subst, _∙_}
-use mathlib.Core.List.{List, [], _∷_, _++_, map}
-use mathlib.Core.Bool.{Bool, true, false, not, cond, _&&_, _||_}
+use mathlib.Core.Path.{_≡_, refl, subst}
+use mathlib.Core.List.{List, [], _∷_}
+use mathlib.Core.Bool.{Bool, true, false, not, cond, _&&_}
 use lib.ListN.{length, getD, set}
 use lib.Dec.{eqb, leb, ltb}
 use borrow.Author.Tests.{leb-true, ltb-true, eqb-false}
 use Rattle.rules.specs.Limits.{flight, fence, rally, sizeOf, storeBytes, replyBytesMin, maxJumps, maxRepeats, expiryMs, byteValues, clockValues, lastNumber, xLimit, yLimit, accepted, noSpace, invalid, invalidSequence, denied, cancelled, unsupported}
 use Rattle.rules.specs.Payload.{Bytes, numberAt}
-use Rattle.rules.specs.Layouts.{Field, layoutOf, values, itemIntId, statustextId}
-use Rattle.rules.specs.Messages.{Station, station, sameStation, Item, Message, setCurrent, current, requestList, count, clearAll, ack, requestInt, itemInt, statustext, unknown, idOf, valuesOf, messageOf, decode, itemOf, itemIn}
+use Rattle.rules.specs.Layouts.{Field, layoutOf, values, statustextId}
+use Rattle.rules.specs.Messages.{Station, station, sameStation, Item, Message, current, count, ack, requestInt, itemInt, valuesOf, messageOf, decode, itemOf, itemIn}
 use Rattle.rules.specs.Values.{signed, within, float, finite}
 use Rattle.rules.specs.Items.{Row, commands, paramOk, frameOk, isJump, placeFault, roomFault, faultIn, faultAmong, fault, jumpsAmong}
-use Rattle.rules.specs.Model.{Plan, Run, Upload, idle, running, Shown, Model, noPlan, planOf, uploadOf, lengthOf, nextNumber, shownNumber, elapsed, expected, isLast, whole, wholeOk, isOthers, isOwn, withPlan, put, empty, choose, every, uploadInRange, inRange}
+use Rattle.rules.specs.Model.{Plan, Run, Upload, idle, running, Shown, Model, noPlan, planOf, uploadOf, lengthOf, nextNumber, shownNumber, elapsed, expected, isLast, whole, wholeOk, isOthers, isOwn, withPlan, put, choose, uploadInRange, inRange}
 use Rattle.rules.specs.Calls.{Call, message, timer, done, Request, chooses, asksList, announces, clears, acknowledges, asksItem, brings, Heard, refuses, request, expiry, commandDone, oursOrAll, forUs, heardMessage, isKnown, heard}
-use Rattle.rules.specs.Step.{Answer, refused, silent, says, orders, Stepped, stays, onCount, replaced, takes, onItem, onAck, onClear, anyOthers, covered, onList, onRequest, currentOf, refusalText, onSetCurrent, onKnown, kindOk, onMessage, onTimer, act, step}
+use Rattle.rules.specs.Step.{Stepped, onCount, takes, onItem, onAck, onClear, anyOthers, covered, onList, onRequest, refusalText, onSetCurrent, onKnown, kindOk, onMessage, onTimer, act, step}
 use Rattle.rules.specs.Laws.Tests.{both, either}
 use Rattle.rules.specs.Laws.Decode.{decode-cases}
-use Rattle.rules.specs.Laws.Kinds.{size-small, kindRanged, ranged-kind}
+use Rattle.rules.specs.Laws.Kinds.{size-small, ranged-kind}
 use Rattle.rules.specs.Laws.Numbers.{numberAt-fits}
 use Rattle.rules.specs.Laws.Layout.{FitFields}
 use Rattle.rules.specs.Fitting.{Fits, AllBytes, StationFits, PlanFits, UploadFits, ModelFits, CallFits, AnswerFits}

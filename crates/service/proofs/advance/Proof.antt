@@ -1,6 +1,5 @@
 -- A refused call by the refusal's number, and Stuck; any other by the next command.
-use Rattle.rules.specs.Messages.{station}
-use Rattle.rules.specs.Calls.{message, timer, done}
+use Rattle.rules.specs.Calls.{done}
 use Rattle.service.specs.Calls.{refused-serves}
 use mathlib.Core.List.{[]}
 use Rattle.service.proofs.Ways.{done-long, done-ranged, done-serves}

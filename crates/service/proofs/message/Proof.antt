@@ -1,6 +1,6 @@
 -- A refused call by the refusal's number; any other by what its message does.
 use Rattle.rules.specs.Messages.{station}
-use Rattle.rules.specs.Calls.{message, timer, done}
+use Rattle.rules.specs.Calls.{message}
 use Rattle.service.specs.Calls.{refused-serves}
 use Rattle.service.proofs.Ways.{message-ready, message-serves}
 use borrow.Author.Needs.{needs}

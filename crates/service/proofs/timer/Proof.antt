@@ -1,6 +1,5 @@
 -- A refused call by the refusal's number; any other by the timer's turn.
-use Rattle.rules.specs.Messages.{station}
-use Rattle.rules.specs.Calls.{message, timer, done}
+use Rattle.rules.specs.Calls.{timer}
 use Rattle.service.specs.Calls.{refused-serves}
 use Rattle.service.proofs.Ways.{timer-ready, timer-serves}
 use borrow.Author.Needs.{needs}
