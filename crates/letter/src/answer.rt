@@ -1,4 +1,5 @@
 // The drone's answer in words, read from the reply's bytes. The reply array is zero past the reply.
+use crate::ids;
 use crate::print::item;
 use crate::print::kind;
 use crate::print::number;
@@ -67,10 +68,10 @@ fn one_item(m: ItemInt) {
 // To whom the answer goes and what it says.
 pub fn tell(id: u32, reply: &[u8; 54]) {
     match id {
-        44 => count(wire::read_count(reply)),
-        47 => ack(wire::read_ack(reply)),
-        51 => request(wire::read_request_int(reply)),
-        73 => one_item(wire::read_item_int(reply)),
+        ids::COUNT => count(wire::read_count(reply)),
+        ids::ACK => ack(wire::read_ack(reply)),
+        ids::REQUEST_INT => request(wire::read_request_int(reply)),
+        ids::ITEM_INT => one_item(wire::read_item_int(reply)),
         _ => text(b"nobody\n"),
     }
 }

@@ -1,13 +1,13 @@
 // The items that the tablets send. Places are degrees times ten million.
 use wire::Patterns;
 
-const WAYPOINT: u16 = 16;
+pub const WAYPOINT: u16 = 16;
 
-const LAND: u16 = 21;
+pub const LAND: u16 = 21;
 
-const TAKEOFF: u16 = 22;
+pub const TAKEOFF: u16 = 22;
 
-const CIRCLE: u16 = 5003;
+pub const CIRCLE: u16 = 5003;
 
 // Bit patterns: 10 and 200 metres.
 const TEN: u32 = 0x4120_0000;

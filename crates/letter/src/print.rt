@@ -1,4 +1,5 @@
 // Words, numbers and places on standard output.
+use crate::items;
 use wire::Patterns;
 
 pub fn text(words: &[u8]) {
@@ -38,11 +39,10 @@ pub fn kind(k: u8) {
 
 fn command(c: u16) {
     match c {
-        16 => text(b"waypoint"),
-        21 => text(b"land"),
-        22 => text(b"takeoff"),
-        5003 => text(b"circle to stay inside"),
-        5004 => text(b"circle to stay out of"),
+        items::WAYPOINT => text(b"waypoint"),
+        items::LAND => text(b"land"),
+        items::TAKEOFF => text(b"takeoff"),
+        items::CIRCLE => text(b"circle to stay inside"),
         _ => text(b"command"),
     }
 }

@@ -47,7 +47,8 @@ pub fn first(state: State, store: &mut [u8; 26752]) -> State {
     let s = old_plan(state, store);
     let s = half_a_plan(s, store);
     let s = radio_drops(s, store);
-    text(b"The radio is back:\n");
+    text(b"The radio is back, and item 2 comes too late:\n");
+    let s = item(s, store, YOURS, waypoint(2, 476302000, 93802000), 50000);
     let s = stands(s, store, FLIGHT, 60000);
     text(b"That is yesterday's plan, whole.\n");
     flies(s, store, 4)

@@ -1,5 +1,6 @@
 // The calls: each message is told, handed to the service, and its answer told.
 use crate::answer;
+use crate::ids;
 use crate::print;
 use crate::print::text;
 use plan::State;
@@ -20,19 +21,20 @@ fn says(from: u8) {
     text(b" says: ");
 }
 
-fn send(
+// A message call, and what is answered; the reply array comes as zeros.
+fn exchange(
     state: State,
     store: &mut [u8; 26752],
+    reply: &mut [u8; 54],
     from: u8,
     id: u32,
     payload: &[u8],
     clock: u32,
 ) -> State {
-    let mut reply = [0u8; 54];
     let served = service::message(
         state,
         store,
-        &mut reply,
+        reply,
         DRONE,
         DRONE,
         from,
@@ -42,8 +44,20 @@ fn send(
         clock,
     );
     text(b"  drone answers ");
-    answer::tell(served.id, &reply);
+    answer::tell(served.id, reply);
     served.state
+}
+
+fn send(
+    state: State,
+    store: &mut [u8; 26752],
+    from: u8,
+    id: u32,
+    payload: &[u8],
+    clock: u32,
+) -> State {
+    let mut reply = [0u8; 54];
+    exchange(state, store, &mut reply, from, id, payload, clock)
 }
 
 // A tablet announces a plan of some items.
@@ -65,7 +79,7 @@ pub fn count(
         state,
         store,
         from,
-        44,
+        ids::COUNT,
         &[items, 0, DRONE, DRONE, kind],
         clock,
     )
@@ -85,7 +99,7 @@ pub fn item(
     text(b" ");
     print::item(patterns);
     let payload = reply::item_bytes(DRONE, DRONE, 0, patterns);
-    send(state, store, from, 73, &payload, clock)
+    send(state, store, from, ids::ITEM_INT, &payload, clock)
 }
 
 // Time passes: a timer call for flight, some milliseconds after the last message at `since`.
@@ -102,23 +116,8 @@ pub fn silence(state: State, store: &[u8; 26752], since: u32, passed: u32) -> St
 
 // Your tablet asks for one item of the plan that stands.
 fn ask_item(state: State, store: &mut [u8; 26752], kind: u8, n: u16, clock: u32) -> State {
-    let mut reply = [0u8; 54];
     let payload = [(n % 256) as u8, (n / 256) as u8, DRONE, DRONE, kind];
-    let served = service::message(
-        state,
-        store,
-        &mut reply,
-        DRONE,
-        DRONE,
-        YOURS,
-        TABLET,
-        51,
-        &payload,
-        clock,
-    );
-    text(b"  drone answers ");
-    answer::tell(served.id, &reply);
-    served.state
+    send(state, store, YOURS, ids::REQUEST_INT, &payload, clock)
 }
 
 fn ask_items(state: State, store: &mut [u8; 26752], kind: u8, count: u16, clock: u32) -> State {
@@ -131,6 +130,12 @@ fn ask_items(state: State, store: &mut [u8; 26752], kind: u8, count: u16, clock:
     after
 }
 
+// The number of items that a COUNT names.
+fn length_in(reply: &[u8; 54]) -> u16 {
+    let m = wire::read_count(reply);
+    m.count
+}
+
 // Your tablet asks which plan stands: how many items, then each of them.
 pub fn stands(state: State, store: &mut [u8; 26752], kind: u8, clock: u32) -> State {
     says(YOURS);
@@ -138,21 +143,15 @@ pub fn stands(state: State, store: &mut [u8; 26752], kind: u8, clock: u32) -> St
     print::kind(kind);
     text(b" plan stands?\n");
     let mut reply = [0u8; 54];
-    let served = service::message(
+    let payload = [DRONE, DRONE, kind];
+    let after = exchange(
         state,
         store,
         &mut reply,
-        DRONE,
-        DRONE,
         YOURS,
-        TABLET,
-        43,
-        &[DRONE, DRONE, kind],
+        ids::REQUEST_LIST,
+        &payload,
         clock,
     );
-    text(b"  drone answers ");
-    answer::tell(served.id, &reply);
-    let count = wire::read_count(&reply);
-    let after = served.state;
-    ask_items(after, store, kind, count.count, clock)
+    ask_items(after, store, kind, length_in(&reply), clock)
 }
