@@ -1,4 +1,5 @@
 // The lines of a dump: the state, and the items of plans and uploads.
+ghost use Prim.Native.Nat.{_≤_};
 use crate::print::end;
 use crate::print::flag;
 use crate::print::hex_bytes;
@@ -27,11 +28,26 @@ fn shown(plan: Plan) -> u32 {
     plan.number
 }
 
-fn place_of(kind: u8, half: bool, n: u16) -> usize {
-    if kind <= 2 {
-        return plan::places::place_at(kind, half, n);
+// The item place at which a kind begins, in either half.
+fn first_place(kind: u8) -> usize
+    ensures { λ r. ⌜ r ≤ 320 ⌝ }
+{
+    if kind == 0 {
+        return 0;
     }
-    0
+    if kind == 1 {
+        return 256;
+    }
+    320
+}
+
+// The store's byte at which an item begins: 38 bytes a place, 352 places a half.
+fn place_of(kind: u8, half: bool, n: u16) -> usize {
+    let place = first_place(kind) + n as usize;
+    if half {
+        return (352 + place) * 38;
+    }
+    place * 38
 }
 
 // The line of the item with a number: its 38 bytes.

@@ -102,14 +102,13 @@ pub fn item(
     send(state, store, from, ids::ITEM_INT, &payload, clock)
 }
 
-// Time passes: a timer call for flight, some milliseconds after the last message at `since`.
+// Time passes: a timer call for flight, some milliseconds after the last item was taken, at `since`.
 pub fn silence(state: State, store: &[u8; 26752], since: u32, passed: u32) -> State {
     let mut reply = [0u8; 54];
     let clock = std::num::wrapping_add_u32(since, passed);
     let served = service::timer(state, store, &mut reply, plan::FLIGHT, clock);
-    text(b"after ");
     print::number(passed);
-    text(b" ms of silence the drone says to ");
+    text(b" ms after the last item taken the drone says to ");
     answer::tell(served.id, &reply);
     served.state
 }
