@@ -139,8 +139,8 @@ pub fn fence_and_rally() {
     );
 }
 
-// Frames; commands of no kind and of another kind.
-pub fn frames_and_commands() {
+// Frames of positional and of other commands.
+pub fn frames() {
     run(
         b"\
 16 frame 0: u 0 1 16 0 > 0
@@ -163,6 +163,14 @@ pub fn frames_and_commands() {
 178 frame 255: u 0 1 178 255 > 2
 5003 frame 2: u 1 1 5003 2 0x3f800000 > 2
 5100 frame 2: u 2 1 5100 2 > 2
+",
+    );
+}
+
+// Commands of no kind and of another kind.
+pub fn commands() {
+    run(
+        b"\
 30 in flight: u 0 1 30 3 > 3
 179 in flight: u 0 1 179 3 > 3
 15 in flight: u 0 1 15 3 > 3

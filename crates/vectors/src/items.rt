@@ -24,7 +24,7 @@ pub struct Fields {
     pub z: u32,
 }
 
-// A position at 0 that every kind's rules on place and frame allow.
+// A valid flight item.
 fn waypoint() -> Fields {
     Fields {
         kind: FLIGHT,
@@ -54,15 +54,8 @@ fn put_four(payload: &mut [u8; 64], at: usize, n: u32) {
     put_two(payload, std::num::wrapping_add_usize(at, 2), n >> 16);
 }
 
-// The item with a number, to 1/1.
-fn send_item(
-    host: Host,
-    state: State,
-    store: &mut [u8; 26752],
-    reply: &mut [u8; 64],
-    f: Fields,
-    n: u32,
-) -> Served {
+// The payload of the item with a number, to 1/1.
+fn item_payload(f: Fields, n: u32) -> [u8; 64] {
     let mut p = [0u8; 64];
     put_four(&mut p, 0, f.param1);
     put_four(&mut p, 4, f.param2);
@@ -75,6 +68,27 @@ fn send_item(
     put(&mut p, 34, f.frame);
     put(&mut p, 36, 1);
     put(&mut p, 37, f.kind);
+    p
+}
+
+// The payload of a COUNT to 1/1.
+fn count_payload(kind: u32, count: u32) -> [u8; 64] {
+    let mut p = [0u8; 64];
+    put_two(&mut p, 0, count);
+    put_two(&mut p, 2, 257);
+    put(&mut p, 4, kind);
+    p
+}
+
+fn send_item(
+    host: Host,
+    state: State,
+    store: &mut [u8; 26752],
+    reply: &mut [u8; 64],
+    f: Fields,
+    n: u32,
+) -> Served {
+    let p = item_payload(f, n);
     message(host, state, store, reply, ITEM_INT, &p, 38)
 }
 
@@ -127,10 +141,7 @@ pub fn upload(
     f: Fields,
     count: u32,
 ) -> Served {
-    let mut p = [0u8; 64];
-    put_two(&mut p, 0, count);
-    put_two(&mut p, 2, 257);
-    put(&mut p, 4, f.kind);
+    let p = count_payload(f.kind, count);
     let started = message(host, state, store, reply, COUNT, &p, 5);
     let s = started.state;
     let last = std::num::wrapping_sub_u32(count, 1);

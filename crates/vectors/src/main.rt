@@ -19,7 +19,8 @@ fn main() {
     bounds::yaw_speed_servo();
     bounds::jumps();
     bounds::fence_and_rally();
-    bounds::frames_and_commands();
+    bounds::frames();
+    bounds::commands();
     bounds::places();
     published::mavlink();
 }

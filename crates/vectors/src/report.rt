@@ -54,6 +54,13 @@ fn narrow(n: usize) -> u32 {
     (n % 65536) as u32
 }
 
+fn write_apart(apart: usize) {
+    if apart < 64 {
+        write_number(b", first differing byte ", narrow(apart));
+    }
+    write(b"\n");
+}
+
 // Outcome, id, length and bytes are to be as the text says from a place on.
 pub fn reply_is(text: &[u8], at: usize, got: Served, reply: &[u8; 64]) {
     let outcome = next_number(text, at);
@@ -69,8 +76,7 @@ pub fn reply_is(text: &[u8], at: usize, got: Served, reply: &[u8; 64]) {
     write_number(b": outcome ", got.outcome as u32);
     write_number(b", id ", got.id);
     write_number(b", length ", narrow(got.len));
-    write_number(b", first differing byte ", narrow(apart));
-    write(b"\n");
+    write_apart(apart);
 }
 
 fn is(text: &[u8], got: u32, want: u32) {

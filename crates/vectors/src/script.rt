@@ -15,7 +15,7 @@ use crate::text::byte_at;
 use crate::text::find;
 use crate::text::next_bytes;
 use crate::text::next_number;
-use crate::text::ten_numbers;
+use crate::text::seven_numbers;
 use messages::Served;
 use next_command::Command;
 use plan::State;
@@ -95,48 +95,36 @@ fn timer(text: &[u8], at: usize, w: World, store: &[u8; 26752], reply: &mut [u8;
     calls::timer(host, state, store, reply, byte(kind.value))
 }
 
-fn fields(kind: u32, a: [u32; 10], from: usize) -> Fields {
-    if from == 3 {
-        return Fields {
-            kind,
-            command: a[3],
-            frame: a[4],
-            param1: a[5],
-            param2: a[6],
-            x: a[7],
-            y: a[8],
-            z: a[9],
-        };
-    }
+// The fields that stand from COMMAND on.
+fn fields(kind: u32, a: [u32; 7]) -> Fields {
     Fields {
         kind,
-        command: a[2],
-        frame: a[3],
-        param1: a[4],
-        param2: a[5],
-        x: a[6],
-        y: a[7],
-        z: a[8],
+        command: a[0],
+        frame: a[1],
+        param1: a[2],
+        param2: a[3],
+        x: a[4],
+        y: a[5],
+        z: a[6],
     }
 }
 
 fn sent(text: &[u8], at: usize, w: World, store: &mut [u8; 26752], reply: &mut [u8; 64]) -> Served {
-    let a = ten_numbers(text, at);
+    let kind = next_number(text, at);
+    let first = next_number(text, kind.at);
+    let last = next_number(text, first.at);
+    let f = fields(kind.value, seven_numbers(text, last.at));
     let host = w.host;
     let state = w.state;
-    items::send_items(host, state, store, reply, fields(a[0], a, 3), a[1], a[2])
+    items::send_items(host, state, store, reply, f, first.value, last.value)
 }
 
 fn uploaded(text: &[u8], at: usize, store: &mut [u8; 26752], reply: &mut [u8; 64]) -> Served {
-    let a = ten_numbers(text, at);
-    items::upload(
-        calls::usual(),
-        service::fresh(),
-        store,
-        reply,
-        fields(a[0], a, 2),
-        a[1],
-    )
+    let kind = next_number(text, at);
+    let count = next_number(text, kind.at);
+    let f = fields(kind.value, seven_numbers(text, count.at));
+    let host = calls::usual();
+    items::upload(host, service::fresh(), store, reply, f, count.value)
 }
 
 // A command's case and item.

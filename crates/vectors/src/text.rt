@@ -123,12 +123,12 @@ pub fn next_bytes(text: &[u8], from: usize, to: &mut [u8; 64]) -> Bytes {
     Bytes { count, at }
 }
 
-// The numbers that stand next, ten.
-pub fn ten_numbers(text: &[u8], from: usize) -> [u32; 10] {
-    let mut all = [0u32; 10];
+// The seven numbers that stand next, 0 for those that are left out at the end of the args.
+pub fn seven_numbers(text: &[u8], from: usize) -> [u32; 7] {
+    let mut all = [0u32; 7];
     let mut at = from;
     let mut i: usize = 0;
-    while i < 10 {
+    while i < 7 {
         let n = next_number(text, at);
         all[i] = n.value;
         at = n.at;

@@ -1,3 +1,3 @@
--- Laws that several proofs cite: numbers in a payload, the rows of the table, and how the rules hear a message by them.
+-- Laws that several proofs cite: numbers in a payload and the rows of the table.
 pub mod Numbers
 pub mod Rows

@@ -1,3 +1,4 @@
+-- A part that is not longer than its slice is as long as it says.
 use Prim.Native.Nat.{_≤_}
 use mathlib.Core.Path.{sym}
 use native.Mathlib.Omega.{arith}
@@ -5,17 +6,13 @@ use lib.ListN.{length}
 use lib.Seq.{length-take-le}
 use Rattle.vectors.proofs.calls.front.Statement.{statement}
 use Rattle.vectors.proofs.calls.front.Tie as tie
-use Rattle.vectors.proofs.calls.front.Reads as reads
-use Rattle.vectors.proofs.calls.front.Lts as lts
 
--- src/calls.rt:9:9
 returns : tie.Need-returns
 returns c =
     let a = c .before .args in
     let short : a .n ≤ length (a .bytes .now) = omega arith in
     (short, sym (length-take-le (a .n) (a .bytes .now) short))
 
--- src/calls.rt:5:1
 returns-2 : tie.Need-returns-2
 returns-2 c =
     let b = c .before .args .bytes .now in

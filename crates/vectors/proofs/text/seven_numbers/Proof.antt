@@ -1,14 +1,14 @@
 -- The loop ends: its measure is how much is left.
 use Prim.Native.Nat.{_-_}
 use borrow.Author.Needs.{needs}
-use Rattle.vectors.proofs.text.ten_numbers.Statement.{statement}
-use Rattle.vectors.proofs.text.ten_numbers.Tie as tie
+use Rattle.vectors.proofs.text.seven_numbers.Statement.{statement}
+use Rattle.vectors.proofs.text.seven_numbers.Tie as tie
 
 abbrev Inv-loop : tie.InvT-loop
 Inv-loop text from all₀ at₀ i₀ all at i = Unit {0}
 
 abbrev μ-loop : tie.MeasureT-loop
-μ-loop text from all₀ at₀ i₀ all at i = 10 - i
+μ-loop text from all₀ at₀ i₀ all at i = 7 - i
 
 loop-holds : tie.Need-loop-holds Inv-loop μ-loop
 loop-holds c = tt
@@ -34,8 +34,8 @@ loop-again c = tt
 returns : tie.Need-returns Inv-loop μ-loop
 returns c = tt
 
-pub ten-numbers-spec : {M : Type 1} → statement M
-ten-numbers-spec =
+pub seven-numbers-spec : {M : Type 1} → statement M
+seven-numbers-spec =
     tie.close
     (tie.spec
     Inv-loop
