@@ -13,6 +13,7 @@ use Rattle.rules.specs.Limits.{flight, kinds, everyKind, denied}
 use Rattle.rules.specs.Payload.{Bytes}
 use Rattle.rules.specs.Messages.{Station, station, sameStation, Item, requestInt, ack, itemInt, decode, itemOf, itemIn}
 use Rattle.rules.specs.Layouts.{itemIntId}
+use Rattle.rules.specs.Items.{among}
 use Rattle.rules.specs.Fitting.{Fits}
 use Rattle.rules.specs.ReadBack.{reads-back, item-reads-back}
 use Rattle.rules.specs.Model.{Plan, Run, running, Shown, Model, noPlan, planOf, lengthOf, uploadOf, fresh, nextNumber, expected, isOthers, withPlan, put, emptied, empty, choose}
@@ -27,11 +28,6 @@ use Rattle.call_lists.specs.Laws.Turns.{no, or-none, runOf, clear-denied
 use Rattle.call_lists.specs.Laws.Back.{same-run}
 use Rattle.call_lists.specs.Tracks.{one-more, open-runs}
 use Rattle.call_lists.specs.Rules.{only-strokes, takes-effect, denies}
-
--- a kind is among some kinds
-abbrev pub among : List ℕ → ℕ → Bool
-among [] k = false
-among (j ∷ js) k = eqb j k || among js k
 
 -- ---- what leaves a plan as it is
 
