@@ -16,18 +16,18 @@ use Rattle.rules.specs.Layouts.{itemIntId}
 use Rattle.rules.specs.Items.{among}
 use Rattle.rules.specs.Fitting.{Fits}
 use Rattle.rules.specs.ReadBack.{reads-back, item-reads-back}
-use Rattle.rules.specs.Model.{Plan, Run, running, Shown, Model, noPlan, planOf, lengthOf, uploadOf, fresh, nextNumber, expected, isOthers, withPlan, put, emptied, empty, choose}
+use Rattle.rules.specs.Model.{Plan, Run, running, Shown, Model, noPlan, planOf, lengthOf, uploadOf, fresh, nextNumber, expected, withPlan, put, emptied, empty, choose}
 use Rattle.rules.specs.NextCommand.{Found, nowhere, found, next, reach, advance}
 use Rattle.rules.specs.Calls.{Call, Request, chooses, asksList, announces, clears, acknowledges, asksItem, brings, Heard, refuses, request, expiry, commandDone, isKnown}
-use Rattle.rules.specs.Step.{Answer, says, Stepped, onCount, onItem, onRequest, onKnown, kindOk, onMessage, act, run, replyBytes}
+use Rattle.rules.specs.Step.{Answer, says, Stepped, onItem, onRequest, onKnown, kindOk, onMessage, act, run, replyBytes}
 use Rattle.call_lists.specs.Uploads.{shownBy, answerTo, hears, letIn, acts, Open, opened, taken, waited, passed, Completes, Empties, byCount, byClear, byClearAll, Stroke, uploaded, emptied as empties, chosen, advanced, nothing}
-use Rattle.call_lists.specs.Laws.Lists.{run-snoc, same-self, same-station}
+use Rattle.call_lists.specs.Laws.Lists.{run-snoc, same-self}
 use Rattle.rules.specs.Laws.Kinds.{known-below}
 use Rattle.call_lists.specs.Laws.Kept.{HeardKnown, heard-known, formed}
 use Rattle.call_lists.specs.Laws.Turns.{no, or-none, runOf, clear-denied, message-other, timer-other}
 use Rattle.call_lists.specs.Laws.Back.{same-run}
 use Rattle.call_lists.specs.Tracks.{one-more, open-runs}
-use Rattle.call_lists.specs.Rules.{only-strokes, takes-effect, denies}
+use Rattle.call_lists.specs.Rules.{only-strokes, takes-effect, others-open, count-denied, denies}
 
 -- ---- what leaves a plan as it is
 
@@ -271,29 +271,17 @@ out-of-turn pre c k o n got started repeats now item up sent other =
       unchanged = after-call pre c h sent ∙ ap (λ (s : Stepped). s .model) stepped;
     }
 
-denied-count :
-    (m : Model) (o : Station) (now k n : ℕ) → isKnown k ≡ true → isOthers o (uploadOf m k) ≡ true
-    → act m (request o now k (announces n)) ≡ record { model = m; answer = says (ack o denied k 0) }
-unfolding act onMessage onKnown kindOk onCount
-denied-count m o now k n known others = rw (known, others)
-
 -- A second station's COUNT of the same kind is denied and changes nothing.
 pub second-station :
     (pre : List Call) (c : Call) (k : ℕ) (o o′ : Station) (n n′ : ℕ) (got : List Bytes) (started repeats now : ℕ) → Open k o n pre got started repeats
     → (o′ ≡ o → ⊥) → hears c ≡ request o′ now k (announces n′) → Says pre c (says (ack o′ denied k 0))
-unfolding isOthers
 second-station pre c k o o′ n n′ got started repeats now up other sent =
-    let was = open-runs up in
     let h = request o′ now k (announces n′) in
-    let stepped = denied-count (run fresh pre) o′ now k n′ (was .known) (rw (was .upload) (apart (sameStation o′ o) refl)) in
+    let stepped = count-denied (run fresh pre) o′ now k n′ (open-runs up .known) (others-open o′ up other) in
     record {
       answer = answer-heard pre c h sent ∙ ap (λ (s : Stepped). s .answer) stepped;
       unchanged = after-call pre c h sent ∙ ap (λ (s : Stepped). s .model) stepped;
     }
-  where
-    apart : (t : Bool) → sameStation o′ o ≡ t → not (sameStation o′ o) ≡ true
-    apart true t = absurd (other (same-station o′ o t))
-    apart false t = rw t
 
 -- ---- kinds apart
 

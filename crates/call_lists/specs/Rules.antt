@@ -280,22 +280,27 @@ lets-in pre c k o now n sent small fits alone =
         let own : r .station ≡ o = alone (r .station) (r .count) (r .taken) (r .started) (r .repeats) (runs-open k (le-leb k rally small) pre r e) in
         rw (e, own, same-self o)
 
-count-denied :
+-- another station than the one whose upload is open
+pub others-open :
+    {k : ℕ} {o : Station} {n : ℕ} {pre : List Call} {got : List Bytes} {started repeats : ℕ} (o′ : Station) → Open k o n pre got started repeats → (o′ ≡ o → ⊥)
+    → isOthers o′ (uploadOf (run fresh pre) k) ≡ true
+unfolding isOthers
+others-open {o = o} o′ up other = rw (open-runs up .upload) (apart (sameStation o′ o) refl)
+  where
+    apart : (t : Bool) → sameStation o′ o ≡ t → not (sameStation o′ o) ≡ true
+    apart true t = absurd (other (same-station o′ o t))
+    apart false t = rw t
+
+pub count-denied :
     (m : Model) (o : Station) (now k n : ℕ) → isKnown k ≡ true → isOthers o (uploadOf m k) ≡ true
-    → act m (request o now k (announces n)) .answer ≡ says (ack o denied k 0)
+    → act m (request o now k (announces n)) ≡ record { model = m; answer = says (ack o denied k 0) }
 unfolding act onMessage onKnown kindOk onCount
 count-denied m o now k n known others = rw (known, others)
 
 pub denies :
     (pre : List Call) (c : Call) (k : ℕ) (o o′ : Station) (n n′ : ℕ) (got : List Bytes) (started repeats now : ℕ) → Open k o n pre got started repeats → (o′ ≡ o → ⊥)
     → hears c ≡ request o′ now k (announces n′) → answerTo pre c ≡ says (ack o′ denied k 0)
-unfolding isOthers
 denies pre c k o o′ n n′ got started repeats now up other sent =
-    let was = open-runs up in
     ap (λ (s : Stepped). s .answer) (one-more pre c)
     ∙ ap (λ (h : Heard). act (run fresh pre) h .answer) sent
-    ∙ count-denied (run fresh pre) o′ now k n′ (was .known) (rw (was .upload) (apart (sameStation o′ o) refl))
-  where
-    apart : (t : Bool) → sameStation o′ o ≡ t → not (sameStation o′ o) ≡ true
-    apart true t = absurd (other (same-station o′ o t))
-    apart false t = rw t
+    ∙ ap (λ (s : Stepped). s .answer) (count-denied (run fresh pre) o′ now k n′ (open-runs up .known) (others-open o′ up other))
