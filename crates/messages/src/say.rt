@@ -34,7 +34,7 @@ pub fn ack(result: u8, kind: u8, number: u32, system: u8, component: u8, reply: 
     let len = reply::write_ack(message, reply);
     Said {
         outcome: REPLIED,
-        id: 47,
+        id: wire::ACK_ID,
         len,
     }
 }
@@ -60,7 +60,7 @@ pub fn speak(say: Say, kind: u8, system: u8, component: u8, reply: &mut [u8]) ->
             let len = reply::write_request_int(message, reply);
             Said {
                 outcome: REPLIED,
-                id: 51,
+                id: wire::REQUEST_INT_ID,
                 len,
             }
         }

@@ -38,7 +38,7 @@ pub fn on_list(state: State, kind: u8, system: u8, component: u8, reply: &mut [u
     Served {
         state,
         outcome: REPLIED,
-        id: 44,
+        id: wire::COUNT_ID,
         len,
     }
 }
@@ -80,7 +80,7 @@ pub fn on_request(
         return Served {
             state,
             outcome: REPLIED,
-            id: 73,
+            id: wire::ITEM_INT_ID,
             len,
         };
     }
@@ -116,7 +116,7 @@ pub fn on_set_current(state: State, seq: u16, reply: &mut [u8]) -> Served
         return Served {
             state: chosen,
             outcome: REPLIED,
-            id: 42,
+            id: wire::CURRENT_ID,
             len,
         };
     }
@@ -125,7 +125,7 @@ pub fn on_set_current(state: State, seq: u16, reply: &mut [u8]) -> Served
     Served {
         state,
         outcome: REPLIED,
-        id: 253,
+        id: wire::STATUSTEXT_ID,
         len,
     }
 }

@@ -12,11 +12,17 @@ use crate::bytes::item_bytes;
 use crate::bytes::request_int_bytes;
 use crate::bytes::statustext_bytes;
 use crate::trim::write_trimmed;
+use wire::ACK_ID;
 use wire::Ack;
+use wire::COUNT_ID;
+use wire::CURRENT_ID;
 use wire::Count;
 use wire::Current;
+use wire::ITEM_INT_ID;
 use wire::ItemInt;
+use wire::REQUEST_INT_ID;
 use wire::RequestInt;
+use wire::STATUSTEXT_ID;
 use wire::Statustext;
 
 pub fn write_current(m: Current, out: &mut [u8]) -> usize
@@ -24,7 +30,7 @@ pub fn write_current(m: Current, out: &mut [u8]) -> usize
     ensures { λ r. ⌜ Written (encode (currentMessage m)) (now (out .entry)) (now (out .exit)) r ⌝ }
 {
     let bytes = current_bytes(m);
-    write_trimmed(42, &bytes, out)
+    write_trimmed(CURRENT_ID, &bytes, out)
 }
 
 pub fn write_count(m: Count, out: &mut [u8]) -> usize
@@ -32,7 +38,7 @@ pub fn write_count(m: Count, out: &mut [u8]) -> usize
     ensures { λ r. ⌜ Written (encode (countMessage m)) (now (out .entry)) (now (out .exit)) r ⌝ }
 {
     let bytes = count_bytes(m);
-    write_trimmed(44, &bytes, out)
+    write_trimmed(COUNT_ID, &bytes, out)
 }
 
 pub fn write_ack(m: Ack, out: &mut [u8]) -> usize
@@ -40,7 +46,7 @@ pub fn write_ack(m: Ack, out: &mut [u8]) -> usize
     ensures { λ r. ⌜ Written (encode (ackMessage m)) (now (out .entry)) (now (out .exit)) r ⌝ }
 {
     let bytes = ack_bytes(m);
-    write_trimmed(47, &bytes, out)
+    write_trimmed(ACK_ID, &bytes, out)
 }
 
 pub fn write_request_int(m: RequestInt, out: &mut [u8]) -> usize
@@ -48,7 +54,7 @@ pub fn write_request_int(m: RequestInt, out: &mut [u8]) -> usize
     ensures { λ r. ⌜ Written (encode (requestIntMessage m)) (now (out .entry)) (now (out .exit)) r ⌝ }
 {
     let bytes = request_int_bytes(m);
-    write_trimmed(51, &bytes, out)
+    write_trimmed(REQUEST_INT_ID, &bytes, out)
 }
 
 pub fn write_item_int(m: ItemInt, out: &mut [u8]) -> usize
@@ -57,7 +63,7 @@ pub fn write_item_int(m: ItemInt, out: &mut [u8]) -> usize
 {
     let patterns = m.patterns;
     let bytes = item_bytes(m.system, m.component, m.current, patterns);
-    write_trimmed(73, &bytes, out)
+    write_trimmed(ITEM_INT_ID, &bytes, out)
 }
 
 pub fn write_statustext(m: Statustext, out: &mut [u8]) -> usize
@@ -65,5 +71,5 @@ pub fn write_statustext(m: Statustext, out: &mut [u8]) -> usize
     ensures { λ r. ⌜ Written (encode (statustextMessage m)) (now (out .entry)) (now (out .exit)) r ⌝ }
 {
     let bytes = statustext_bytes(m);
-    write_trimmed(253, &bytes, out)
+    write_trimmed(STATUSTEXT_ID, &bytes, out)
 }

@@ -14,12 +14,20 @@ use crate::messages::Patterns;
 use crate::messages::RequestInt;
 use crate::messages::RequestList;
 use crate::messages::SetCurrent;
+use crate::table::ACK_ID;
+use crate::table::CLEAR_ALL_ID;
+use crate::table::COUNT_ID;
+use crate::table::CURRENT_ID;
+use crate::table::ITEM_INT_ID;
+use crate::table::REQUEST_INT_ID;
+use crate::table::REQUEST_LIST_ID;
+use crate::table::SET_CURRENT_ID;
 use crate::table::own_part;
 
 pub fn read_set_current(p: &[u8]) -> SetCurrent
     ensures { λ r. ⌜ setCurrentMessage r ≡ decode setCurrentId (now (p .entry)) ⌝ }
 {
-    let own = own_part(41, p);
+    let own = own_part(SET_CURRENT_ID, p);
     SetCurrent {
         seq: u16_at(own, 0),
         system: byte_at(own, 2),
@@ -30,7 +38,7 @@ pub fn read_set_current(p: &[u8]) -> SetCurrent
 pub fn read_request_list(p: &[u8]) -> RequestList
     ensures { λ r. ⌜ requestListMessage r ≡ decode requestListId (now (p .entry)) ⌝ }
 {
-    let own = own_part(43, p);
+    let own = own_part(REQUEST_LIST_ID, p);
     RequestList {
         system: byte_at(own, 0),
         component: byte_at(own, 1),
@@ -41,7 +49,7 @@ pub fn read_request_list(p: &[u8]) -> RequestList
 pub fn read_count(p: &[u8]) -> Count
     ensures { λ r. ⌜ countMessage r ≡ decode countId (now (p .entry)) ⌝ }
 {
-    let own = own_part(44, p);
+    let own = own_part(COUNT_ID, p);
     Count {
         count: u16_at(own, 0),
         system: byte_at(own, 2),
@@ -54,7 +62,7 @@ pub fn read_count(p: &[u8]) -> Count
 pub fn read_clear_all(p: &[u8]) -> ClearAll
     ensures { λ r. ⌜ clearAllMessage r ≡ decode clearAllId (now (p .entry)) ⌝ }
 {
-    let own = own_part(45, p);
+    let own = own_part(CLEAR_ALL_ID, p);
     ClearAll {
         system: byte_at(own, 0),
         component: byte_at(own, 1),
@@ -65,7 +73,7 @@ pub fn read_clear_all(p: &[u8]) -> ClearAll
 pub fn read_ack(p: &[u8]) -> Ack
     ensures { λ r. ⌜ ackMessage r ≡ decode ackId (now (p .entry)) ⌝ }
 {
-    let own = own_part(47, p);
+    let own = own_part(ACK_ID, p);
     Ack {
         system: byte_at(own, 0),
         component: byte_at(own, 1),
@@ -78,7 +86,7 @@ pub fn read_ack(p: &[u8]) -> Ack
 pub fn read_request_int(p: &[u8]) -> RequestInt
     ensures { λ r. ⌜ requestIntMessage r ≡ decode requestIntId (now (p .entry)) ⌝ }
 {
-    let own = own_part(51, p);
+    let own = own_part(REQUEST_INT_ID, p);
     RequestInt {
         seq: u16_at(own, 0),
         system: byte_at(own, 2),
@@ -110,7 +118,7 @@ pub fn patterns_at(p: &[u8]) -> Patterns
 pub fn read_item_int(p: &[u8]) -> ItemInt
     ensures { λ r. ⌜ itemIntMessage r ≡ decode itemIntId (now (p .entry)) ⌝ }
 {
-    let own = own_part(73, p);
+    let own = own_part(ITEM_INT_ID, p);
     let patterns = patterns_at(own);
     ItemInt {
         system: byte_at(own, 32),

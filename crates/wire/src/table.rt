@@ -8,8 +8,36 @@ ghost use Rattle.rules.specs.Messages.{decode};
 ghost use Rattle.wire.specs.Table.{rowOf, isRead, headOf};
 use crate::fields::byte_at;
 
-// SET_CURRENT, CURRENT, REQUEST_LIST, COUNT, CLEAR_ALL, ACK, REQUEST_INT, ITEM_INT, STATUSTEXT.
-const IDS: [u32; 9] = [41, 42, 43, 44, 45, 47, 51, 73, 253];
+pub const SET_CURRENT_ID: u32 = 41;
+
+pub const CURRENT_ID: u32 = 42;
+
+pub const REQUEST_LIST_ID: u32 = 43;
+
+pub const COUNT_ID: u32 = 44;
+
+pub const CLEAR_ALL_ID: u32 = 45;
+
+pub const ACK_ID: u32 = 47;
+
+pub const REQUEST_INT_ID: u32 = 51;
+
+pub const ITEM_INT_ID: u32 = 73;
+
+pub const STATUSTEXT_ID: u32 = 253;
+
+// The rows of the table, in this order.
+const IDS: [u32; 9] = [
+    SET_CURRENT_ID,
+    CURRENT_ID,
+    REQUEST_LIST_ID,
+    COUNT_ID,
+    CLEAR_ALL_ID,
+    ACK_ID,
+    REQUEST_INT_ID,
+    ITEM_INT_ID,
+    STATUSTEXT_ID,
+];
 // One number more in each column: that of every id that is not in the table.
 const FULLS: [usize; 10] = [4, 18, 3, 9, 3, 8, 5, 38, 54, 0];
 
