@@ -29,6 +29,7 @@ pub data Value : Type 0 where
   commands : List Command → Value
   shown : Shown → Value
   upload : Upload → Value
+  model : Model → Value
   reads : Message → Value
 
 pub record Case : Type 0 where

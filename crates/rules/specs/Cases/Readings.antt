@@ -12,7 +12,7 @@ use Rattle.rules.specs.Messages.{station, Item, count, ack, current, req
 use Rattle.rules.specs.Model.{Model, Shown, Plan, Upload, idle, running, fresh, uploadOf, elapsed}
 use Rattle.rules.specs.Calls.{Call, message, timer, done}
 use Rattle.rules.specs.Step.{Answer, refused, silent, says, refusalText, run, replyBytes}
-use Rattle.rules.specs.Cases.{computing, Case, number, bytes, answer, shown, upload, _is_, Hold, vehicle, tablet, neighbour, sends, sendsCount, sendsItem, sendsAck, sendsClear, asksForList, asksForItem, setsCurrent, ticks, finishes, after, f2, f3, f4, fNaN, fMinusZero, fMinusOne, itemAs, waypoint, jumpTo, vertex, circle}
+use Rattle.rules.specs.Cases.{computing, Case, number, bytes, answer, shown, upload, model, _is_, Hold, vehicle, tablet, neighbour, sends, sendsCount, sendsItem, sendsAck, sendsClear, asksForList, asksForItem, setsCurrent, ticks, finishes, after, f2, f3, f4, fNaN, fMinusZero, fMinusOne, itemAs, waypoint, jumpTo, vertex, circle}
 
 -- ---- what the cases start from
 
@@ -32,11 +32,15 @@ flying =
     }
 
 -- the tablet uploads two fence items, the first is taken
-abbrev fencing : Model
-fencing = run flying (sendsCount tablet 100 fence 2 ∷ sendsItem tablet 120 (circle 0) ∷ [])
-
 abbrev fencingRun : (started repeats : ℕ) → Upload
 fencingRun started repeats = running (record { station = tablet; count = 2; taken = itemOf (circle 0) ∷ []; started = started; repeats = repeats })
+
+abbrev fencingAt : (started repeats : ℕ) → Model
+fencingAt started repeats = record { shown = flying .shown; uploads = idle ∷ fencingRun started repeats ∷ idle ∷ [] }
+
+-- as two calls of the tablet leave it
+abbrev fencing : Model
+fencing = fencingAt 120 0
 
 -- the tablet announces n flight items and sends these
 abbrev uploads : (n : ℕ) → List Item → List Call
@@ -52,10 +56,6 @@ verdict result kind = says (ack tablet result kind 0)
 -- a number of the state is out of its range: one jump count
 abbrev unranged : Model
 unranged = record { shown = record { plans = flying .shown .plans; current = 0; begun = true; counts = 32768 ∷ [] }; uploads = flying .uploads }
-
--- the same upload with another last start and other repeats
-abbrev fencingAt : (started repeats : ℕ) → Model
-fencingAt started repeats = record { shown = flying .shown; uploads = idle ∷ fencingRun started repeats ∷ idle ∷ [] }
 
 -- the tablet uploads 17 flight items, and the fifteen taken are jumps
 abbrev jumping : Model
@@ -91,8 +91,10 @@ amongTraffic =
 
 abbrev pub readings : List Case
 readings =
+    -- a COUNT and its first item start an upload, and what is shown stays
+    (model (run flying (sendsCount tablet 100 fence 2 ∷ sendsItem tablet 120 (circle 0) ∷ [])) is model fencing)
     -- the order of refusals: 14, 15, 10, 11, 12, 13
-    (answer (after unranged [] (lent 26751 53 ackId [])) is answer (refused 14))
+    ∷ (answer (after unranged [] (lent 26751 53 ackId [])) is answer (refused 14))
     ∷ (answer (after unranged [] (lent 26752 53 ackId [])) is answer (refused 15))
     ∷ (answer (after fresh [] (lent 26752 53 ackId [])) is answer (refused 10))
     ∷ (answer (after fresh [] (lent 26752 54 42 [])) is answer (refused 11))
