@@ -1,6 +1,5 @@
-// MAVLink's own test values, written, and NaN patterns written and read back. A case of writing answers the number of the first
-// byte that differs, counted from 1, 0 where none does, and 1000 where the length differs.
-use crate::read::apart;
+// MAVLink's own test values, written, and NaN patterns written and read back. Each case answers whether every byte is the one meant.
+use crate::read::same;
 use crate::read::test_patterns;
 use crate::say;
 
@@ -15,37 +14,19 @@ pub fn all() {
 }
 
 // What a buffer holds before it is written to.
-pub const BEFORE: u8 = 170;
+const BEFORE: u8 = 170;
 
-fn wide(n: usize) -> u64 {
-    n as u64
+// Whether a buffer of 60 bytes holds a payload of n bytes, and past it what it held before.
+fn held(out: &[u8], n: usize, want: &[u8]) -> bool {
+    if 60 < want.len() {
+        return false;
+    }
+    let mut whole = [BEFORE; 60];
+    bytes::copy(want, &mut whole);
+    (n == want.len()) & check::same(out, &whole)
 }
 
-// What differs in a buffer that should hold a payload, and past it what it held before.
-pub fn held(out: &[u8], n: usize, want: &[u8]) -> u64 {
-    if n != want.len() {
-        return 1000;
-    }
-    if out.len() < n {
-        return 1000;
-    }
-    let mut i = 0;
-    while i < out.len() {
-        if i < n {
-            if out[i] != want[i] {
-                return wide(i + 1);
-            }
-        } else {
-            if out[i] != BEFORE {
-                return wide(i + 1);
-            }
-        }
-        i += 1;
-    }
-    0
-}
-
-fn current() -> u64 {
+fn current() -> bool {
     let m = wire::Current {
         seq: 17235,
         total: 17339,
@@ -64,7 +45,7 @@ fn current() -> u64 {
     )
 }
 
-fn count() -> u64 {
+fn count() -> bool {
     let m = wire::Count {
         count: 17235,
         system: 139,
@@ -77,7 +58,7 @@ fn count() -> u64 {
     held(&out, n, b"\x53\x43\x8b\xce\x11\xfc\xce\x6d\x39")
 }
 
-fn ack() -> u64 {
+fn ack() -> bool {
     let m = wire::Ack {
         system: 5,
         component: 72,
@@ -90,7 +71,7 @@ fn ack() -> u64 {
     held(&out, n, b"\x05\x48\x8b\xce\xc8\xce\x6d\x39")
 }
 
-fn request_int() -> u64 {
+fn request_int() -> bool {
     let m = wire::RequestInt {
         seq: 17235,
         system: 139,
@@ -102,7 +83,7 @@ fn request_int() -> u64 {
     held(&out, n, b"\x53\x43\x8b\xce\x11")
 }
 
-fn item_int() -> u64 {
+fn item_int() -> bool {
     let patterns = test_patterns();
     let m = wire::ItemInt {
         system: 101,
@@ -120,7 +101,7 @@ fn item_int() -> u64 {
 }
 
 // Severity 5, fifty times `m`, id 19887, chunk 228.
-fn statustext() -> u64 {
+fn statustext() -> bool {
     let text = [b'm'; 50];
     let m = wire::Statustext {
         severity: 5,
@@ -138,7 +119,7 @@ fn statustext() -> u64 {
 }
 
 // Quiet, signalling, negative and full NaN patterns, and minus zero.
-fn nan_patterns() -> u64 {
+fn nan_patterns() -> bool {
     let patterns = wire::Patterns {
         bits1: 0x7fc0_0001,
         bits2: 0x7f80_0001,
@@ -154,5 +135,5 @@ fn nan_patterns() -> u64 {
         kind: 0,
     };
     let bytes = reply::item_bytes(0, 0, 0, patterns);
-    apart(wire::patterns_at(&bytes), patterns)
+    same(wire::patterns_at(&bytes), patterns)
 }

@@ -1,10 +1,10 @@
--- `wire_values::lengths::payload` meets its contract: `i` stays at most 300, and the array keeps its length.
+-- `wire_lengths::payload` meets its contract: `i` stays at most 300, and the array keeps its length.
 use Prim.Native.Nat.{_-_, _≤_}
 use mathlib.Core.Path.{_≡_}
 use lib.ListN.{length}
 use borrow.Author.Needs.{needs}
-use Rattle.wire_values.proofs.lengths.payload.Statement.{statement}
-use Rattle.wire_values.proofs.lengths.payload.Tie as tie
+use Rattle.wire_lengths.proofs.payload.Statement.{statement}
+use Rattle.wire_lengths.proofs.payload.Tie as tie
 
 abbrev Inv-loop : tie.InvT-loop
 Inv-loop p₀ i₀ p i = (i ≤ 300) × (length p ≡ 300)

@@ -1,11 +1,11 @@
--- `wire_values::lengths::front` meets its contract: a part of a slice is as long as it says.
+-- `wire_lengths::front` meets its contract: a part of a slice is as long as it says.
 use mathlib.Core.Path.{sym}
 use native.Mathlib.Omega.{arith}
 use lib.Seq.{length-take-le}
 use denote.Ref.{now}
 use borrow.Author.Needs.{needs}
-use Rattle.wire_values.proofs.lengths.front.Statement.{statement}
-use Rattle.wire_values.proofs.lengths.front.Tie as tie
+use Rattle.wire_lengths.proofs.front.Statement.{statement}
+use Rattle.wire_lengths.proofs.front.Tie as tie
 
 slice-aggregate-result : tie.Need-slice-aggregate-result
 slice-aggregate-result c = sym (length-take-le (c .before .before .args .n) (now (c .before .before .args .p)) (omega arith))
