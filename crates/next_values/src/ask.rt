@@ -87,51 +87,40 @@ fn write(text: &[u8]) {
     io::write_all(1, text);
 }
 
-fn wide(n: u16) -> u64 {
-    n as u64
-}
-
-fn answers(name: &[u8], got: Told, case: u8, n: u16, value: f32) {
+fn say(name: &[u8], holds: bool) {
     write(name);
-    let servo = (got.channel == 5) & (got.pulse == 1500);
-    if (got.case == case) & (got.n == n) & (got.value == value) & servo {
+    if holds {
         write(b": ok\n");
         return;
     }
-    write(b": got case ");
-    io::print_decimal(1, wide(got.case as u16));
-    write(b", item ");
-    io::print_decimal(1, wide(got.n));
-    write(b"\n");
+    write(b": differs\n");
 }
 
-// The next command of a state over a store is to be a case for item n, with a value. The state after it.
+fn is(got: Told, case: u8, n: u16, value: f32) -> bool {
+    (got.case == case)
+        & (got.n == n)
+        & (got.value == value)
+        & (got.channel == 5)
+        & (got.pulse == 1500)
+}
+
+// The next command of a state over a store is to be a case for item n, with a value. The state after it. Nothing is said, and so a line
+// is missing, where the store is too short or the state out of its ranges.
 pub fn step(name: &[u8], state: State, store: &[u8], case: u8, n: u16, value: f32) -> State {
     if store.len() < STORE {
-        write(b"the store is too short\n");
         return state;
     }
     if !plan::ranges::ranged(state) {
-        write(b"the state is out of its ranges\n");
         return state;
     }
     let got = next_command::next(state, store);
     let command = got.command;
-    answers(name, tell(command), case, n, value);
+    say(name, is(tell(command), case, n, value));
     got.state
 }
 
 // The first two jump counts of a state.
 pub fn counts_are(name: &[u8], state: State, first: u16, second: u16) {
     let counts = state.counts;
-    write(name);
-    if (counts[0] == first) & (counts[1] == second) {
-        write(b": ok\n");
-        return;
-    }
-    write(b": got ");
-    io::print_decimal(1, wide(counts[0]));
-    write(b" and ");
-    io::print_decimal(1, wide(counts[1]));
-    write(b"\n");
+    say(name, (counts[0] == first) & (counts[1] == second));
 }

@@ -1,4 +1,4 @@
-// Stores flight plans and asks for their commands, call after call. A line for each answer: what was asked, and `ok` or what came instead.
+// Stores flight plans and asks for their commands, call after call. A line for each answer: what was asked, and `ok` or `differs`.
 mod ask;
 mod plans;
 
@@ -14,7 +14,13 @@ use ask::begin;
 use ask::counts_are;
 use ask::step;
 
-fn takeoff_to_land(store: &[u8]) {
+fn takeoff_to_land() {
+    let mut store = [0u8; 26752];
+    plans::takeoff_to_land(&mut store);
+    from_takeoff(&store);
+}
+
+fn from_takeoff(store: &[u8]) {
     let s = step(b"takeoff", begin(4), store, FLY, 0, 0.0);
     let s = step(b"waypoint", s, store, FLY, 1, 0.0);
     let s = step(b"waypoint after the first jump", s, store, FLY, 1, 0.0);
@@ -33,30 +39,54 @@ fn values(store: &[u8]) {
     step(b"past the servo", s, store, FINISHED, 0, 0.0);
 }
 
-fn main() {
+fn without_jumps() {
     let mut store = [0u8; 26752];
-    plans::takeoff_to_land(&mut store);
-    takeoff_to_land(&store);
     step(b"empty plan", begin(0), &store, FINISHED, 0, 0.0);
     plans::values(&mut store);
     values(&store);
-    plans::two_jumps(&mut store, plans::THIRTY_ONE);
-    let s = step(b"63 jumps followed", begin(3), &store, FLY, 2, 0.0);
-    counts_are(b"counts after 63 jumps", s, 0, 31);
-    plans::two_jumps(&mut store, plans::THIRTY_TWO);
-    let s = step(b"65 jumps to follow", begin(3), &store, STUCK, 0, 0.0);
-    counts_are(b"counts after Stuck", s, 0, 0);
-    plans::many_jumps(&mut store, 15, plans::FIFTEEN);
-    step(
-        b"fifteen jumps passed over",
-        begin(16),
-        &store,
-        FLY,
-        15,
-        0.0,
-    );
-    plans::many_jumps(&mut store, 16, plans::SIXTEEN);
-    step(b"sixteenth jump", begin(17), &store, STUCK, 0, 0.0);
     plans::unknown(&mut store);
     step(b"command 30", begin(1), &store, STUCK, 0, 0.0);
+}
+
+fn two_jumps(times: u32, name: &[u8], case: u8, n: u16, counts: &[u8], second: u16) {
+    let mut store = [0u8; 26752];
+    plans::two_jumps(&mut store, times);
+    let s = step(name, begin(3), &store, case, n, 0.0);
+    counts_are(counts, s, 0, second);
+}
+
+fn many_jumps(len: u16, jumps: u16, target: u32, name: &[u8], case: u8, n: u16) {
+    let mut store = [0u8; 26752];
+    plans::many_jumps(&mut store, jumps, target);
+    step(name, begin(len), &store, case, n, 0.0);
+}
+
+fn main() {
+    takeoff_to_land();
+    without_jumps();
+    two_jumps(
+        plans::THIRTY_ONE,
+        b"63 jumps followed",
+        FLY,
+        2,
+        b"counts after 63 jumps",
+        31,
+    );
+    two_jumps(
+        plans::THIRTY_TWO,
+        b"65 jumps to follow",
+        STUCK,
+        0,
+        b"counts after Stuck",
+        0,
+    );
+    many_jumps(
+        16,
+        15,
+        plans::FIFTEEN,
+        b"fifteen jumps passed over",
+        FLY,
+        15,
+    );
+    many_jumps(17, 16, plans::SIXTEEN, b"sixteenth jump", STUCK, 0);
 }
