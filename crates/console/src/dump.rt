@@ -1,24 +1,14 @@
 // The lines of a dump: the state, and the items of plans and uploads.
 ghost use Prim.Native.Nat.{_≤_};
+use crate::print::begin;
 use crate::print::end;
-use crate::print::flag;
 use crate::print::hex_bytes;
-use crate::print::next;
 use crate::print::push;
 use crate::print::put;
-use crate::print::wide;
 use plan::Plan;
 use plan::Run;
 use plan::State;
 use plan::Upload;
-
-fn of_byte(n: u8) -> u64 {
-    n as u64
-}
-
-fn of_word(n: u32) -> u64 {
-    n as u64
-}
 
 // An empty plan shows number 0.
 fn shown(plan: Plan) -> u32 {
@@ -61,9 +51,7 @@ fn item_line(
     store: &[u8],
 ) -> usize {
     let first = place_of(kind, half, n);
-    let at = push(out, at, letter);
-    let at = next(out, at, of_byte(kind));
-    let at = next(out, at, wide(n));
+    let at = begin(out, at, letter, &[kind as u64, n as u64]);
     let at = push(out, at, b' ');
     let at = hex_bytes(
         out,
@@ -93,22 +81,29 @@ fn item_lines(
     at
 }
 
-fn run_line(out: &mut [u8; 8192], at: usize, run: Run) -> usize {
-    let at = next(out, at, of_byte(run.system));
-    let at = next(out, at, of_byte(run.component));
-    let at = next(out, at, wide(run.count));
-    let at = next(out, at, wide(run.next));
-    let at = next(out, at, of_word(run.started));
-    let at = next(out, at, of_byte(run.repeats));
+fn run_line(out: &mut [u8; 8192], at: usize, kind: u8, run: Run) -> usize {
+    let list = [
+        kind as u64,
+        run.system as u64,
+        run.component as u64,
+        run.count as u64,
+        run.next as u64,
+        run.started as u64,
+        run.repeats as u64,
+    ];
+    let at = begin(out, at, b'u', &list);
     end(out, at)
 }
 
+fn idle_line(out: &mut [u8; 8192], at: usize, kind: u8) -> usize {
+    let at = begin(out, at, b'u', &[kind as u64]);
+    put(out, at, b" -\n")
+}
+
 fn upload_line(out: &mut [u8; 8192], at: usize, kind: u8, upload: Upload) -> usize {
-    let at = push(out, at, b'u');
-    let at = next(out, at, of_byte(kind));
     match upload {
-        Upload::Idle => put(out, at, b" -\n"),
-        Upload::Running(r) => run_line(out, at, r),
+        Upload::Idle => idle_line(out, at, kind),
+        Upload::Running(r) => run_line(out, at, kind, r),
     }
 }
 
@@ -121,12 +116,14 @@ fn brought(upload: Upload) -> u16 {
 }
 
 fn plan_line(out: &mut [u8; 8192], at: usize, kind: u8, plan: Plan) -> usize {
-    let at = push(out, at, b'k');
-    let at = next(out, at, of_byte(kind));
-    let at = next(out, at, wide(plan.len));
-    let at = next(out, at, of_word(plan.number));
-    let at = next(out, at, of_word(shown(plan)));
-    let at = flag(out, at, plan.half);
+    let list = [
+        kind as u64,
+        plan.len as u64,
+        plan.number as u64,
+        shown(plan) as u64,
+        plan.half as u64,
+    ];
+    let at = begin(out, at, b'k', &list);
     end(out, at)
 }
 
@@ -138,16 +135,6 @@ fn kind_lines(out: &mut [u8; 8192], at: usize, kind: u8, plan: Plan, store: &[u8
     item_lines(out, at, b'w', kind, !plan.half, brought(upload), store)
 }
 
-fn counts_line(out: &mut [u8; 8192], from: usize, counts: [u16; 15]) -> usize {
-    let mut at = from;
-    let mut i: usize = 0;
-    while i < 15 {
-        at = next(out, at, wide(counts[i]));
-        i += 1;
-    }
-    end(out, at)
-}
-
 fn plan_lines(out: &mut [u8; 8192], at: usize, plans: [Plan; 3], store: &[u8]) -> usize {
     let flight = plans[0];
     let fence = plans[1];
@@ -157,12 +144,24 @@ fn plan_lines(out: &mut [u8; 8192], at: usize, plans: [Plan; 3], store: &[u8]) -
     kind_lines(out, at, plan::RALLY, rally, store)
 }
 
-fn current_line(out: &mut [u8; 8192], at: usize, state: State) -> usize {
-    let at = push(out, at, b'c');
-    let at = next(out, at, wide(state.current));
-    let at = flag(out, at, state.begun);
+// The current item, whether it is begun, and the jump counts.
+fn progress(state: State) -> [u64; 17] {
     let counts = state.counts;
-    counts_line(out, at, counts)
+    let mut list = [0u64; 17];
+    list[0] = state.current as u64;
+    list[1] = state.begun as u64;
+    let mut i: usize = 0;
+    while i < 15 {
+        list[i + 2] = counts[i] as u64;
+        i += 1;
+    }
+    list
+}
+
+fn current_line(out: &mut [u8; 8192], at: usize, state: State) -> usize {
+    let list = progress(state);
+    let at = begin(out, at, b'c', &list);
+    end(out, at)
 }
 
 // The whole dump; outcome 15 alone where a number of the state is out of its range.

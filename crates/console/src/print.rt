@@ -41,23 +41,28 @@ pub fn put(out: &mut [u8; 8192], from: usize, text: &[u8]) -> usize {
     at
 }
 
-pub fn number(out: &mut [u8; 8192], at: usize, n: u64) -> usize {
+// A number after a space.
+fn number(out: &mut [u8; 8192], at: usize, n: u64) -> usize {
     let mut text = [0u8; 20];
     let k = io::decimal(n, &mut text);
+    let at = push(out, at, b' ');
     put(out, at, &text[..k])
 }
 
-// A number after a space.
-pub fn next(out: &mut [u8; 8192], at: usize, n: u64) -> usize {
-    let at = push(out, at, b' ');
-    number(out, at, n)
+fn numbers(out: &mut [u8; 8192], from: usize, list: &[u64]) -> usize {
+    let mut at = from;
+    let mut i: usize = 0;
+    while i < list.len() {
+        at = number(out, at, list[i]);
+        i += 1;
+    }
+    at
 }
 
-pub fn flag(out: &mut [u8; 8192], at: usize, b: bool) -> usize {
-    if b {
-        return next(out, at, 1);
-    }
-    next(out, at, 0)
+// A letter and numbers: what every line begins with.
+pub fn begin(out: &mut [u8; 8192], at: usize, letter: u8, list: &[u64]) -> usize {
+    let at = push(out, at, letter);
+    numbers(out, at, list)
 }
 
 pub fn end(out: &mut [u8; 8192], at: usize) -> usize {
@@ -90,25 +95,8 @@ pub fn hex_bytes(
     at
 }
 
-pub fn wide(n: u16) -> u64 {
-    n as u64
-}
-
-fn of_byte(n: u8) -> u64 {
-    n as u64
-}
-
-fn of_word(n: u32) -> u64 {
-    n as u64
-}
-
-fn of_size(n: usize) -> u64 {
-    n as u64
-}
-
 fn bad(out: &mut [u8; 8192], at: usize, kind: u8) -> usize {
-    let at = push(out, at, b'?');
-    let at = next(out, at, of_byte(kind));
+    let at = begin(out, at, b'?', &[kind as u64]);
     end(out, at)
 }
 
@@ -122,8 +110,7 @@ pub fn stopped(out: &mut [u8; 8192], at: usize, why: Why) -> usize {
 }
 
 pub fn same(out: &mut [u8; 8192], at: usize, is_same: bool) -> usize {
-    let at = push(out, at, b's');
-    let at = flag(out, at, is_same);
+    let at = begin(out, at, b's', &[is_same as u64]);
     end(out, at)
 }
 
@@ -144,12 +131,6 @@ fn reply_end(out: &mut [u8; 8192], at: usize, reply: &[u8; 64], len: usize) -> u
     end(out, at)
 }
 
-fn returned(out: &mut [u8; 8192], at: usize, outcome: u8, id: u32, len: usize) -> usize {
-    let at = next(out, at, of_byte(outcome));
-    let at = next(out, at, of_word(id));
-    next(out, at, of_size(len))
-}
-
 // What a message or a timer call returned, and the reply.
 pub fn served(
     out: &mut [u8; 8192],
@@ -160,8 +141,7 @@ pub fn served(
     len: usize,
     reply: &[u8; 64],
 ) -> usize {
-    let at = push(out, at, letter);
-    let at = returned(out, at, outcome, id, len);
+    let at = begin(out, at, letter, &[outcome as u64, id as u64, len as u64]);
     reply_end(out, at, reply, len)
 }
 
@@ -253,21 +233,20 @@ fn value(out: &mut [u8; 8192], at: usize, x: f32) -> usize {
     pattern(out, at, bits(x))
 }
 
-fn two(out: &mut [u8; 8192], at: usize, channel: u16, pulse: u16) -> usize {
-    let at = next(out, at, wide(channel));
-    next(out, at, wide(pulse))
-}
-
 // The item's number and what follows it.
-fn numbers(out: &mut [u8; 8192], at: usize, told: Told) -> usize {
-    let at = next(out, at, wide(told.n));
+fn told_numbers(out: &mut [u8; 8192], at: usize, told: Told) -> usize {
+    if told.numbers == 3 {
+        return numbers(
+            out,
+            at,
+            &[told.n as u64, told.channel as u64, told.pulse as u64],
+        );
+    }
+    let at = number(out, at, told.n as u64);
     if told.numbers == 1 {
         return at;
     }
-    if told.numbers == 2 {
-        return value(out, at, told.value);
-    }
-    two(out, at, told.channel, told.pulse)
+    value(out, at, told.value)
 }
 
 fn answer(out: &mut [u8; 8192], at: usize, told: Told) -> usize {
@@ -275,13 +254,12 @@ fn answer(out: &mut [u8; 8192], at: usize, told: Told) -> usize {
     if told.numbers == 0 {
         return at;
     }
-    numbers(out, at, told)
+    told_numbers(out, at, told)
 }
 
 // What a "command done" call answered.
 pub fn done(out: &mut [u8; 8192], at: usize, outcome: u8, command: Command) -> usize {
-    let at = push(out, at, b'd');
-    let at = next(out, at, of_byte(outcome));
+    let at = begin(out, at, b'd', &[outcome as u64]);
     let at = answer(out, at, tell(command));
     end(out, at)
 }

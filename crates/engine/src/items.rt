@@ -32,7 +32,7 @@ use upload::uploads::is_from;
 
 const INVALID: u8 = 5;
 
-const INVALID_SEQUENCE: u8 = 13;
+pub const INVALID_SEQUENCE: u8 = 13;
 
 // What an item is to its kind's upload: refused with a result, not the number expected, invalid with a result, or the valid
 // next item of a running upload.

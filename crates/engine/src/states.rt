@@ -21,7 +21,7 @@ use upload::updates::emptied;
 use upload::updates::renews;
 use upload::uploads::others_upload;
 
-const EVERY_KIND: u8 = 255;
+pub const EVERY_KIND: u8 = 255;
 
 // The state after a turn of a kind's plan. A flight plan that was replaced or emptied starts at item 0, not begun.
 pub fn turned_state(state: State, kind: u8, turned: Turned) -> State

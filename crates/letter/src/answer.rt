@@ -1,5 +1,4 @@
 // The drone's answer in words, read from the reply's bytes. The reply array is zero past the reply.
-use crate::ids;
 use crate::print::item;
 use crate::print::kind;
 use crate::print::number;
@@ -68,10 +67,10 @@ fn one_item(m: ItemInt) {
 // To whom the answer goes and what it says.
 pub fn tell(id: u32, reply: &[u8; 54]) {
     match id {
-        ids::COUNT => count(wire::read_count(reply)),
-        ids::ACK => ack(wire::read_ack(reply)),
-        ids::REQUEST_INT => request(wire::read_request_int(reply)),
-        ids::ITEM_INT => one_item(wire::read_item_int(reply)),
+        wire::COUNT_ID => count(wire::read_count(reply)),
+        wire::ACK_ID => ack(wire::read_ack(reply)),
+        wire::REQUEST_INT_ID => request(wire::read_request_int(reply)),
+        wire::ITEM_INT_ID => one_item(wire::read_item_int(reply)),
         _ => text(b"nobody\n"),
     }
 }

@@ -1,7 +1,6 @@
 // Plays a grower's three questions as calls of the service, and tells each message, each answer and the plan that stands.
 mod answer;
 mod fly;
-mod ids;
 mod items;
 mod print;
 mod questions;

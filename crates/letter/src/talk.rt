@@ -1,6 +1,5 @@
 // The calls: each message is told, handed to the service, and its answer told.
 use crate::answer;
-use crate::ids;
 use crate::print;
 use crate::print::text;
 use plan::State;
@@ -79,7 +78,7 @@ pub fn count(
         state,
         store,
         from,
-        ids::COUNT,
+        wire::COUNT_ID,
         &[items, 0, DRONE, DRONE, kind],
         clock,
     )
@@ -99,7 +98,7 @@ pub fn item(
     text(b" ");
     print::item(patterns);
     let payload = reply::item_bytes(DRONE, DRONE, 0, patterns);
-    send(state, store, from, ids::ITEM_INT, &payload, clock)
+    send(state, store, from, wire::ITEM_INT_ID, &payload, clock)
 }
 
 // Time passes: a timer call for flight, some milliseconds after the last item was taken, at `since`.
@@ -116,7 +115,7 @@ pub fn silence(state: State, store: &[u8; 26752], since: u32, passed: u32) -> St
 // Your tablet asks for one item of the plan that stands.
 fn ask_item(state: State, store: &mut [u8; 26752], kind: u8, n: u16, clock: u32) -> State {
     let payload = [(n % 256) as u8, (n / 256) as u8, DRONE, DRONE, kind];
-    send(state, store, YOURS, ids::REQUEST_INT, &payload, clock)
+    send(state, store, YOURS, wire::REQUEST_INT_ID, &payload, clock)
 }
 
 fn ask_items(state: State, store: &mut [u8; 26752], kind: u8, count: u16, clock: u32) -> State {
@@ -148,7 +147,7 @@ pub fn stands(state: State, store: &mut [u8; 26752], kind: u8, clock: u32) -> St
         store,
         &mut reply,
         YOURS,
-        ids::REQUEST_LIST,
+        wire::REQUEST_LIST_ID,
         &payload,
         clock,
     );

@@ -13,12 +13,11 @@ ghost use Rattle.messages.specs.Answered.{AnsweredBy};
 use crate::Served;
 use crate::say::REPLIED;
 use crate::say::ack;
+use engine::items::INVALID_SEQUENCE;
 use engine::states::chosen_state;
 use engine::states::number_shown;
 use plan::FLIGHT;
 use plan::State;
-
-const INVALID_SEQUENCE: u8 = 13;
 
 // REQUEST_LIST: the length of the plan and its number.
 pub fn on_list(state: State, kind: u8, system: u8, component: u8, reply: &mut [u8]) -> Served

@@ -12,6 +12,7 @@ ghost use Rattle.plan.specs.Ranges.{stateRanged};
 ghost use Rattle.refusal.specs.Refusals.{requestOf};
 ghost use Rattle.engine.specs.Whole.{messageDone};
 ghost use Rattle.messages.specs.Answered.{Handled};
+use engine::states::EVERY_KIND;
 use messages::Served;
 use messages::say::ack;
 use messages::show::on_list;
@@ -23,18 +24,22 @@ use messages::turn::on_count;
 use messages::turn::on_item;
 use plan::RALLY;
 use plan::State;
-
-const EVERY_KIND: u8 = 255;
+use wire::ACK_ID;
+use wire::CLEAR_ALL_ID;
+use wire::COUNT_ID;
+use wire::REQUEST_INT_ID;
+use wire::REQUEST_LIST_ID;
+use wire::SET_CURRENT_ID;
 
 const UNSUPPORTED: u8 = 3;
 
-// Whether a message of an id may have a kind: 255 only in CLEAR_ALL (45), and an ACK (47) never gets a reply, whatever its kind.
+// Whether a message of an id may have a kind: 255 only in CLEAR_ALL, and an ACK never gets a reply, whatever its kind.
 fn kind_ok(id: u32, kind: u8) -> bool
     ensures { λ r. ⌜ ((p : Bytes) → r ≡ kindOk kind (requestOf (decode id p))) ⌝ }
 {
     match id {
-        45 => (kind <= RALLY) | (kind == EVERY_KIND),
-        47 => true,
+        CLEAR_ALL_ID => (kind <= RALLY) | (kind == EVERY_KIND),
+        ACK_ID => true,
         _ => kind <= RALLY,
     }
 }
@@ -64,25 +69,25 @@ pub fn answer(
         };
     }
     match id {
-        41 => {
+        SET_CURRENT_ID => {
             let m = wire::read_set_current(payload);
             on_set_current(state, m.seq, reply)
         }
-        43 => on_list(state, kind, system, component, reply),
-        44 => {
+        REQUEST_LIST_ID => on_list(state, kind, system, component, reply),
+        COUNT_ID => {
             let m = wire::read_count(payload);
             on_count(state, kind, m.count, system, component, clock, reply)
         }
-        45 => on_clear(state, kind, system, component, reply),
-        47 => {
+        CLEAR_ALL_ID => on_clear(state, kind, system, component, reply),
+        ACK_ID => {
             let m = wire::read_ack(payload);
             on_ack(state, kind, m.result, system, component)
         }
-        51 => {
+        REQUEST_INT_ID => {
             let m = wire::read_request_int(payload);
             on_request(state, store, kind, m.seq, system, component, reply)
         }
-        // ITEM_INT (73) is the only other message that is read here.
+        // ITEM_INT is the only other message that is read here.
         _ => {
             let m = wire::read_item_int(payload);
             let patterns = m.patterns;

@@ -8,10 +8,9 @@ ghost use Rattle.rules.specs.Calls as calls;
 ghost use Rattle.plan.specs.View.{freshState};
 ghost use Rattle.service.specs.Calls.{Serves, served, advanced};
 use messages::Served;
+use messages::say::NO_REPLY;
 use next_command::Command;
 use plan::State;
-
-const NO_REPLY: u8 = 1;
 
 // What a "command done" call returns: the state after it, its outcome, and the command.
 pub struct Advanced {

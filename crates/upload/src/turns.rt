@@ -15,6 +15,7 @@ use super::uploads::own_upload;
 use plan::Plan;
 use plan::Run;
 use plan::Upload;
+use plan::ranges::MAX_REPEATS;
 
 pub const ACCEPTED: u8 = 0;
 
@@ -25,8 +26,6 @@ pub const DENIED: u8 = 14;
 const CANCELLED: u8 = 15;
 
 const EXPIRY_MS: u32 = 250;
-
-const MAX_REPEATS: u8 = 5;
 
 // COUNT from a station, of a kind whose plans have at most `size` items.
 pub fn on_count(plan: Plan, system: u8, component: u8, clock: u32, count: u16, size: u16) -> Turned

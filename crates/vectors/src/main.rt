@@ -1,26 +1,13 @@
-// Plays document 01's values and MAVLink's own over the service, and writes a line for each case: its name, and `ok` or what differed.
-mod bounds;
+// Plays a script of cases from standard input over the service, and writes a line for each case: its name, and `ok` or what differed. The
+// file `stdin` has document 01's values and MAVLink's own.
 mod calls;
 mod items;
-mod published;
 mod report;
-mod rules;
 mod script;
 mod text;
 
 fn main() {
-    rules::fences();
-    rules::refusals();
-    rules::shown();
-    rules::numbers_and_clears();
-    rules::uploads();
-    rules::repeats();
-    bounds::at_least_zero();
-    bounds::yaw_speed_servo();
-    bounds::jumps();
-    bounds::fence_and_rally();
-    bounds::frames();
-    bounds::commands();
-    bounds::places();
-    published::mavlink();
+    let mut text = io::large_buffer();
+    let len = io::read_full(0, &mut text);
+    script::run(&text[..len]);
 }

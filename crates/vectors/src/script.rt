@@ -5,7 +5,7 @@
 // u KIND COUNT COMMAND FRAME PARAM1 PARAM2 X Y Z > RESULT          a whole upload from a fresh start; its last item's result
 // d > OUTCOME CASE ITEM                                            "command done": 0 Fly to 5 Servo, 6 Finished, 7 Stuck
 // Ops that set what later lines use: f (a fresh start), o (own numbers), s (the sender's), c (the clock), l (how much of store and
-// reply buffer is lent), p (the current item, as a host might write it).
+// reply buffer is lent), p (the current item, as a host might write it). A line that begins with # says what the next ones are about.
 use crate::calls;
 use crate::calls::Host;
 use crate::items;
@@ -206,6 +206,9 @@ fn set(op: u8, text: &[u8], at: usize, w: World) -> World {
 }
 
 fn line(text: &[u8], at: usize, w: World, store: &mut [u8; 26752]) -> World {
+    if byte_at(text, at) == b'#' {
+        return w;
+    }
     let name_end = find(text, at, b':');
     let op = byte_at(text, after(name_end, 2));
     let args = after(name_end, 3);
