@@ -3,6 +3,7 @@ ghost use Prim.Native.Nat.{_≤_};
 use crate::print::begin;
 use crate::print::end;
 use crate::print::hex_bytes;
+use crate::print::number;
 use crate::print::push;
 use crate::print::put;
 use plan::Plan;
@@ -144,24 +145,21 @@ fn plan_lines(out: &mut [u8; 8192], at: usize, plans: [Plan; 3], store: &[u8]) -
     kind_lines(out, at, plan::RALLY, rally, store)
 }
 
-// The current item, whether it is begun, and the jump counts.
-fn progress(state: State) -> [u64; 17] {
-    let counts = state.counts;
-    let mut list = [0u64; 17];
-    list[0] = state.current as u64;
-    list[1] = state.begun as u64;
+fn counts_line(out: &mut [u8; 8192], from: usize, counts: [u16; 15]) -> usize {
+    let mut at = from;
     let mut i: usize = 0;
     while i < 15 {
-        list[i + 2] = counts[i] as u64;
+        at = number(out, at, counts[i] as u64);
         i += 1;
     }
-    list
+    end(out, at)
 }
 
+// The current item, whether it is begun, and the jump counts.
 fn current_line(out: &mut [u8; 8192], at: usize, state: State) -> usize {
-    let list = progress(state);
-    let at = begin(out, at, b'c', &list);
-    end(out, at)
+    let at = begin(out, at, b'c', &[state.current as u64, state.begun as u64]);
+    let counts = state.counts;
+    counts_line(out, at, counts)
 }
 
 // The whole dump; outcome 15 alone where a number of the state is out of its range.

@@ -42,7 +42,7 @@ pub fn put(out: &mut [u8; 8192], from: usize, text: &[u8]) -> usize {
 }
 
 // A number after a space.
-fn number(out: &mut [u8; 8192], at: usize, n: u64) -> usize {
+pub fn number(out: &mut [u8; 8192], at: usize, n: u64) -> usize {
     let mut text = [0u8; 20];
     let k = io::decimal(n, &mut text);
     let at = push(out, at, b' ');

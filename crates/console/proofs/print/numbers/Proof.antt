@@ -14,6 +14,9 @@ abbrev μ-loop : tie.MeasureT-loop
 loop-holds : tie.Need-loop-holds Inv-loop μ-loop
 loop-holds c = search needs
 
+mul-number : tie.Need-mul-number Inv-loop μ-loop
+mul-number c = search needs
+
 shared-slice-read-number : tie.Need-shared-slice-read-number Inv-loop μ-loop
 shared-slice-read-number c = search needs
 
@@ -39,6 +42,7 @@ numbers-spec =
     Inv-loop
     μ-loop
     loop-holds
+    mul-number
     shared-slice-read-number
     number-requires
     add-i
