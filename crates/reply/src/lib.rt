@@ -1,10 +1,10 @@
 // Replies: the bytes of each message that is written here, and writing them into a lent buffer without trailing zeros.
-mod bytes;
+mod payloads;
 mod trim;
 mod write;
 
-pub use bytes::item_bytes;
-pub use bytes::no_such_item;
+pub use payloads::item_bytes;
+pub use payloads::no_such_item;
 pub use write::write_ack;
 pub use write::write_count;
 pub use write::write_current;

@@ -1,16 +1,16 @@
 -- The rules' message that each struct stands for.
 use Rattle.rules.specs.Messages as rules
 use Rattle.rules.specs.Messages.{Message, station}
-use Rattle.wire.specs.declared.messages.SetCurrent.{SetCurrent}
-use Rattle.wire.specs.declared.messages.Current.{Current}
-use Rattle.wire.specs.declared.messages.RequestList.{RequestList}
-use Rattle.wire.specs.declared.messages.Count.{Count}
-use Rattle.wire.specs.declared.messages.ClearAll.{ClearAll}
-use Rattle.wire.specs.declared.messages.Ack.{Ack}
-use Rattle.wire.specs.declared.messages.RequestInt.{RequestInt}
-use Rattle.wire.specs.declared.messages.Patterns.{Patterns}
-use Rattle.wire.specs.declared.messages.ItemInt.{ItemInt}
-use Rattle.wire.specs.declared.messages.Statustext.{Statustext}
+use Rattle.wire.specs.declared.structs.SetCurrent.{SetCurrent}
+use Rattle.wire.specs.declared.structs.Current.{Current}
+use Rattle.wire.specs.declared.structs.RequestList.{RequestList}
+use Rattle.wire.specs.declared.structs.Count.{Count}
+use Rattle.wire.specs.declared.structs.ClearAll.{ClearAll}
+use Rattle.wire.specs.declared.structs.Ack.{Ack}
+use Rattle.wire.specs.declared.structs.RequestInt.{RequestInt}
+use Rattle.wire.specs.declared.structs.Patterns.{Patterns}
+use Rattle.wire.specs.declared.structs.ItemInt.{ItemInt}
+use Rattle.wire.specs.declared.structs.Statustext.{Statustext}
 
 abbrev pub setCurrentMessage : SetCurrent → Message
 setCurrentMessage m = rules.setCurrent (station (m .system) (m .component)) (m .seq)

@@ -1,23 +1,13 @@
 // MAVLink payloads: the constant table of messages, a struct for each message read or written here, and reading with zero
 // filling. Writing is left to the crate reply, and what a message does to others.
 mod fields;
-mod messages;
 mod read;
+mod structs;
 mod table;
 
 pub use fields::byte_at;
 pub use fields::u16_at;
 pub use fields::u32_at;
-pub use messages::Ack;
-pub use messages::ClearAll;
-pub use messages::Count;
-pub use messages::Current;
-pub use messages::ItemInt;
-pub use messages::Patterns;
-pub use messages::RequestInt;
-pub use messages::RequestList;
-pub use messages::SetCurrent;
-pub use messages::Statustext;
 pub use read::patterns_at;
 pub use read::read_ack;
 pub use read::read_clear_all;
@@ -26,6 +16,16 @@ pub use read::read_item_int;
 pub use read::read_request_int;
 pub use read::read_request_list;
 pub use read::read_set_current;
+pub use structs::Ack;
+pub use structs::ClearAll;
+pub use structs::Count;
+pub use structs::Current;
+pub use structs::ItemInt;
+pub use structs::Patterns;
+pub use structs::RequestInt;
+pub use structs::RequestList;
+pub use structs::SetCurrent;
+pub use structs::Statustext;
 pub use table::ACK_ID;
 pub use table::CLEAR_ALL_ID;
 pub use table::COUNT_ID;

@@ -16,11 +16,11 @@ use Rattle.rules.specs.Step.{says, covered, kindOk}
 use Rattle.item.specs.declared.Item.{Item}
 use Rattle.item.specs.Patterns.{patterns, itemFor, patterns-of, values-of}
 use Rattle.wire.specs.declared.table.Head.{Head}
-use Rattle.wire.specs.declared.messages.SetCurrent.{SetCurrent}
-use Rattle.wire.specs.declared.messages.Count.{Count}
-use Rattle.wire.specs.declared.messages.Ack.{Ack}
-use Rattle.wire.specs.declared.messages.RequestInt.{RequestInt}
-use Rattle.wire.specs.declared.messages.ItemInt.{ItemInt}
+use Rattle.wire.specs.declared.structs.SetCurrent.{SetCurrent}
+use Rattle.wire.specs.declared.structs.Count.{Count}
+use Rattle.wire.specs.declared.structs.Ack.{Ack}
+use Rattle.wire.specs.declared.structs.RequestInt.{RequestInt}
+use Rattle.wire.specs.declared.structs.ItemInt.{ItemInt}
 use Rattle.wire.specs.Table.{isRead, kindOf, headOf}
 use Rattle.wire.specs.Structs.{setCurrentMessage, countMessage, ackMessage, requestIntMessage, itemIntMessage, patternsItem}
 use Rattle.plan.specs.declared.State.{State}

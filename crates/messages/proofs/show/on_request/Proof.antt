@@ -11,7 +11,7 @@ use Rattle.rules.specs.Payload.{Bytes}
 use Rattle.rules.specs.Messages.{station, ack, itemInt, encode, itemIn}
 use Rattle.rules.specs.Layouts.{itemIntId}
 use Rattle.rules.specs.Step.{says}
-use Rattle.wire.specs.declared.messages.Patterns.{Patterns}
+use Rattle.wire.specs.declared.structs.Patterns.{Patterns}
 use Rattle.wire.specs.Structs.{patternsItem}
 use Rattle.plan.specs.declared.State.{State}
 use Rattle.plan.specs.Places.{itemAt}

@@ -8,7 +8,7 @@ use Rattle.rules.specs.Payload.{Bytes}
 use Rattle.rules.specs.Messages.{current, encode}
 use Rattle.rules.specs.Layouts.{currentId, statustextId}
 use Rattle.rules.specs.Step.{refusalText}
-use Rattle.wire.specs.declared.messages.Statustext.{Statustext}
+use Rattle.wire.specs.declared.structs.Statustext.{Statustext}
 use Rattle.wire.specs.Structs.{statustextMessage}
 use Rattle.plan.specs.declared.State.{State}
 use Rattle.plan.specs.View.{planOf}

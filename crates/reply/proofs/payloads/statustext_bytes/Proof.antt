@@ -1,4 +1,4 @@
--- `reply::bytes::statustext_bytes` meets its contract: the fields beside the text are set, and the text is copied between them.
+-- `reply::payloads::statustext_bytes` meets its contract: the fields beside the text are set, and the text is copied between them.
 use Prim.Native.Nat.{ℕ, _<_}
 use mathlib.Core.Path.{_≡_, ap, sym, _∙_}
 use mathlib.Core.List.{List, [], _∷_, _++_}
@@ -13,8 +13,8 @@ use Rattle.rules.specs.Layouts.{u8, u16, layoutOf, pack}
 use Rattle.rules.specs.Messages.{encode}
 use Rattle.reply.proofs.Packing.{one-byte, pack-chars}
 use borrow.Author.Needs.{needs}
-use Rattle.reply.proofs.bytes.statustext_bytes.Statement.{statement}
-use Rattle.reply.proofs.bytes.statustext_bytes.Tie as tie
+use Rattle.reply.proofs.payloads.statustext_bytes.Statement.{statement}
+use Rattle.reply.proofs.payloads.statustext_bytes.Tie as tie
 
 bytes16-requires : tie.Need-bytes16-requires
 bytes16-requires c κs = search needs

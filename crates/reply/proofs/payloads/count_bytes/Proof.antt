@@ -1,11 +1,11 @@
--- `reply::bytes::count_bytes` meets its contract: each field is its own bytes, in the layout's order.
+-- `reply::payloads::count_bytes` meets its contract: each field is its own bytes, in the layout's order.
 use mathlib.Core.List.{[], _++_}
 use Rattle.rules.specs.Layouts.{layoutOf, pack}
 use Rattle.rules.specs.Messages.{encode}
 use Rattle.reply.proofs.Packing.{one-byte}
 use borrow.Author.Needs.{needs}
-use Rattle.reply.proofs.bytes.count_bytes.Statement.{statement}
-use Rattle.reply.proofs.bytes.count_bytes.Tie as tie
+use Rattle.reply.proofs.payloads.count_bytes.Statement.{statement}
+use Rattle.reply.proofs.payloads.count_bytes.Tie as tie
 
 bytes16-requires : tie.Need-bytes16-requires
 bytes16-requires c κs = search needs

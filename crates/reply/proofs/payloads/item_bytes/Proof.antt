@@ -1,12 +1,12 @@
--- `reply::bytes::item_bytes` meets its contract: each field is its own bytes, in the layout's order.
+-- `reply::payloads::item_bytes` meets its contract: each field is its own bytes, in the layout's order.
 use Prim.Native.Nat.{_<_}
 use mathlib.Core.List.{[], _++_}
 use Rattle.rules.specs.Layouts.{layoutOf, pack}
 use Rattle.rules.specs.Messages.{encode}
 use Rattle.reply.proofs.Packing.{one-byte}
 use borrow.Author.Needs.{needs}
-use Rattle.reply.proofs.bytes.item_bytes.Statement.{statement}
-use Rattle.reply.proofs.bytes.item_bytes.Tie as tie
+use Rattle.reply.proofs.payloads.item_bytes.Statement.{statement}
+use Rattle.reply.proofs.payloads.item_bytes.Tie as tie
 
 bytes32-requires : tie.Need-bytes32-requires
 bytes32-requires c κs = search needs

@@ -1,9 +1,9 @@
--- `reply::bytes::bytes16` meets its contract, which is its code.
+-- `reply::payloads::bytes16` meets its contract, which is its code.
 use mathlib.Core.Path.{refl}
 use Rattle.rules.specs.Payload.{bytesOf}
 use borrow.Author.Needs.{needs}
-use Rattle.reply.proofs.bytes.bytes16.Statement.{statement}
-use Rattle.reply.proofs.bytes.bytes16.Tie as tie
+use Rattle.reply.proofs.payloads.bytes16.Statement.{statement}
+use Rattle.reply.proofs.payloads.bytes16.Tie as tie
 
 cast-t3 : tie.Need-cast-t3
 cast-t3 c = search needs
