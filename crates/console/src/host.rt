@@ -1,14 +1,11 @@
 // What a host does to the arrays between the calls.
 use crate::part::byte_at;
 
+// What a reply array holds before a call.
 pub const REPLY_FILL: u8 = 0xA5;
 
 pub fn fill(store: &mut [u8; 26880], byte: u8) {
     *store = [byte; 26880];
-}
-
-pub fn clear(reply: &mut [u8; 64]) {
-    *reply = [REPLY_FILL; 64];
 }
 
 pub fn snap(store: &[u8; 26880], copy: &mut [u8; 26880]) {

@@ -67,28 +67,20 @@ fn message(
     payload: &[u8; 300],
     out: &mut [u8; 8192],
     store: &mut [u8; 26880],
-    reply: &mut [u8; 64],
     state: State,
     at: usize,
 ) -> Played {
-    host::clear(reply);
-    let served = calls::message(r, state, store, reply, payload);
-    let at = print::served(out, at, b'm', served.outcome, served.id, served.len, reply);
+    let mut reply = [host::REPLY_FILL; 64];
+    let served = calls::message(r, state, store, &mut reply, payload);
+    let at = print::served(out, at, b'm', served.outcome, served.id, served.len, &reply);
     let state = served.state;
     Played { state, at }
 }
 
-fn timer(
-    r: Record,
-    out: &mut [u8; 8192],
-    store: &[u8; 26880],
-    reply: &mut [u8; 64],
-    state: State,
-    at: usize,
-) -> Played {
-    host::clear(reply);
-    let served = calls::timer(r, state, store, reply);
-    let at = print::served(out, at, b't', served.outcome, served.id, served.len, reply);
+fn timer(r: Record, out: &mut [u8; 8192], store: &[u8; 26880], state: State, at: usize) -> Played {
+    let mut reply = [host::REPLY_FILL; 64];
+    let served = calls::timer(r, state, store, &mut reply);
+    let at = print::served(out, at, b't', served.outcome, served.id, served.len, &reply);
     let state = served.state;
     Played { state, at }
 }
@@ -113,14 +105,13 @@ fn play(
     out: &mut [u8; 8192],
     store: &mut [u8; 26880],
     copy: &mut [u8; 26880],
-    reply: &mut [u8; 64],
     state: State,
     at: usize,
 ) -> Played {
     let kind = r.kind;
     match kind {
-        input::MESSAGE => message(r, payload, out, store, reply, state, at),
-        input::TIMER => timer(r, out, store, reply, state, at),
+        input::MESSAGE => message(r, payload, out, store, state, at),
+        input::TIMER => timer(r, out, store, state, at),
         input::DONE => done(r, out, store, state, at),
         input::DUMP => dumped(out, store, state, at),
         _ => host_record(r, payload, out, store, copy, state, at),
@@ -142,7 +133,6 @@ fn play_next(
     out: &mut [u8; 8192],
     store: &mut [u8; 26880],
     copy: &mut [u8; 26880],
-    reply: &mut [u8; 64],
     state: State,
     source: Source,
     at: usize,
@@ -151,7 +141,7 @@ fn play_next(
     match input::next_record(bytes, source, &mut payload) {
         Next::Stop(why) => stop(state, source, print::stopped(out, at, why)),
         Next::Play(r, rest) => {
-            let played = play(r, &payload, out, store, copy, reply, state, at);
+            let played = play(r, &payload, out, store, copy, state, at);
             let state = played.state;
             Turn {
                 state,
@@ -169,7 +159,6 @@ fn main() {
     let mut out = [0u8; 8192];
     let mut store = [0u8; 26880];
     let mut copy = [0u8; 26880];
-    let mut reply = [0u8; 64];
     let mut state = service::fresh();
     let mut source = Source { at: 0, end: 0 };
     let mut at: usize = 0;
@@ -180,7 +169,6 @@ fn main() {
             &mut out,
             &mut store,
             &mut copy,
-            &mut reply,
             state,
             source,
             at,

@@ -4,11 +4,11 @@ use Rattle.console.proofs.main.Statement.{statement}
 use Rattle.console.proofs.main.Tie as tie
 
 abbrev Inv-loop : tie.InvT-loop
-Inv-loop bytes₀ out₀ store₀ copy₀ reply₀ state₀ source₀ at₀ turns₀ bytes out store copy reply state source at turns =
+Inv-loop bytes₀ out₀ store₀ copy₀ state₀ source₀ at₀ turns₀ bytes out store copy state source at turns =
     Unit {0}
 
 abbrev μ-loop : tie.MeasureT-loop
-μ-loop bytes₀ out₀ store₀ copy₀ reply₀ state₀ source₀ at₀ turns₀ bytes out store copy reply state source at turns =
+μ-loop bytes₀ out₀ store₀ copy₀ state₀ source₀ at₀ turns₀ bytes out store copy state source at turns =
     turns
 
 fresh-requires : tie.Need-fresh-requires Inv-loop μ-loop
