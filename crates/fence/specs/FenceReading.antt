@@ -14,7 +14,7 @@ use Rattle.rules.specs.Messages.{Item, itemIn}
 use Rattle.rules.specs.Items.{inclusionVertex, exclusionVertex}
 use Rattle.rules.specs.Fence.{between, broken, inside, runWith, readItem, readItems, isBetween, verticesOf}
 use Rattle.rules.specs.Fence as rules
-use Rattle.item.specs.Wholes.{number31}
+use Rattle.values.specs.Wholes.{number31}
 use Rattle.fence.specs.declared.Reading.{Reading}
 
 -- the reading that a record stands for

@@ -6,13 +6,13 @@ ghost use Rattle.rules.specs.Limits.{fence, sizeOf, storeBytes};
 ghost use Rattle.rules.specs.Fence.{fenceOk};
 ghost use Rattle.plan.specs.Places.{itemsIn};
 ghost use Rattle.fence.specs.FenceReading.{readingOf, readAs};
-use item::values::float_of;
-use item::values::number_of;
 use plan::FENCE;
 use plan::items::command_at;
 use plan::items::param1_at;
 use plan::items::with_command;
 use plan::places::place_at;
+use values::float_of;
+use values::number_of;
 
 const RETURN_POINT: u16 = 5000;
 

@@ -1,6 +1,2 @@
 -- Laws that several functions' proofs cite.
-pub mod NumberTests
-pub mod FloatTests
-pub mod Reading
-pub mod Integers
 pub mod Lookup

@@ -1,4 +1,3 @@
 -- What the contracts of this crate cite besides the rules.
 pub mod Patterns
-pub mod Wholes
 pub mod Table

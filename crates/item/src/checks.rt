@@ -2,8 +2,7 @@
 use crate::Item;
 use crate::table::ParamRule;
 use crate::table::Row;
-use crate::values;
-use crate::values::Whole;
+use values::Whole;
 ghost use mathlib.Core.Path.{_≡_};
 ghost use Rattle.rules.specs.Items.{frameOk, paramOk, targetIn, placeFault, roomFault, faultIn};
 ghost use Rattle.rules.specs.Values.{wholeOf, wholeFrom};

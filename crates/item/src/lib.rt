@@ -1,8 +1,7 @@
-// The mission item as a struct by value, and the verdict on an item by document 01's rules. The values of its fields are read in
-// values, the command table is in table, and the rules' tests one by one are in checks.
+// The mission item as a struct by value, and the verdict on an item by document 01's rules. The values of its fields are read by
+// the crate values, the command table is in table, and the rules' tests one by one are in checks.
 pub mod checks;
 pub mod table;
-pub mod values;
 
 use table::Listing;
 use values::Whole;
@@ -11,7 +10,7 @@ ghost use Rattle.rules.specs.Items.{fault, isJump};
 ghost use Rattle.rules.specs.NextCommand.{repeatOf};
 ghost use Rattle.rules.specs.Values.{float, wholeOf, wholeNumber};
 ghost use Rattle.item.specs.Patterns.{itemFor, itemWith, patterns};
-ghost use Rattle.item.specs.Wholes.{whole32, number31};
+ghost use Rattle.values.specs.Wholes.{whole32, number31};
 
 // Params, x, y and z as values, with their 32-bit patterns beside them: a NaN's bits do not survive an f32.
 pub struct Item {

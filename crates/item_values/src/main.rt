@@ -3,20 +3,20 @@
 mod report;
 
 ghost use Prim.Native.Nat.{_≤_};
-use item::values::Whole;
-use item::values::above_zero;
-use item::values::at_least_zero;
-use item::values::float_of;
-use item::values::is_finite;
-use item::values::number_of;
-use item::values::signed_of;
-use item::values::whole_of;
-use item::values::zero_to;
 use report::gives;
 use report::holds;
 use report::write;
 use report::write_number;
 use report::write_pattern;
+use values::Whole;
+use values::above_zero;
+use values::at_least_zero;
+use values::float_of;
+use values::is_finite;
+use values::number_of;
+use values::signed_of;
+use values::whole_of;
+use values::zero_to;
 
 const NAN: u32 = 0x7fc0_0000;
 

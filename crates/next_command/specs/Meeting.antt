@@ -16,8 +16,8 @@ use Rattle.rules.specs.Values.{integer, notWhole, wholeOf, wholeFrom, float}
 use Rattle.rules.specs.Items.{isJump, fault}
 use Rattle.rules.specs.NextCommand.{commandOf, targetOf, repeatOf, passedOver, ends, stands, follows, meets}
 use Rattle.rules.specs.NextCommand as rules
-use Rattle.item.specs.declared.values.Whole.{Whole}
-use Rattle.item.specs.declared.values.Whole.the-variants.{Integer, NotWhole}
+use Rattle.values.specs.declared.Whole.{Whole}
+use Rattle.values.specs.declared.Whole.the-variants.{Integer, NotWhole}
 use Rattle.next_command.specs.declared.Command.the-variants.{Stuck}
 use Rattle.next_command.specs.declared.meet.Met.{Met}
 use Rattle.next_command.specs.declared.meet.Met.the-variants.{Ends, Stands, Follows}

@@ -2,8 +2,8 @@
 // passed over.
 use crate::Command;
 use item::Item;
-use item::values::Whole;
 use plan::FLIGHT;
+use values::Whole;
 ghost use mathlib.Core.Path.{_≡_};
 ghost use Prim.Native.Nat.{_≤_, _<_};
 ghost use lib.ListN.{length, drop};

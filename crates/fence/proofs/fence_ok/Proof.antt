@@ -14,7 +14,7 @@ use Rattle.rules.specs.Messages.{itemIn}
 use Rattle.rules.specs.Values.{float, wholeOf, wholeNumber}
 use Rattle.rules.specs.Items.{returnPoint}
 use Rattle.rules.specs.Fence.{between, runWith, fenceOk}
-use Rattle.item.specs.Wholes.{number31}
+use Rattle.values.specs.Wholes.{number31}
 use Rattle.fence.specs.declared.Reading.{Reading}
 use Rattle.plan.specs.Part.{part}
 use Rattle.plan.specs.Places.{itemAt, itemsIn, offsetOf, offset-within, length-items}

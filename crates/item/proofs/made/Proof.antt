@@ -1,6 +1,6 @@
 -- Field by field: what `float_of` and `signed_of` ensure, an i32 being read back from its bits as itself, and the patterns as they are.
 use mathlib.Core.Path.{_∙_}
-use Rattle.item.proofs.Integers.{back-is}
+use Rattle.values.specs.Integers.{back-is}
 use borrow.Author.Needs.{needs}
 use Rattle.item.proofs.made.Statement.{statement}
 use Rattle.item.proofs.made.Tie as tie

@@ -1,7 +1,7 @@
 -- The param is its pattern's value, by what the function requires.
 use mathlib.Core.Path.{ap, _∙_}
 use Rattle.rules.specs.Values.{wholeOf}
-use Rattle.item.specs.Wholes.{whole32}
+use Rattle.values.specs.Wholes.{whole32}
 use Rattle.item.specs.declared.Item.{Item}
 use borrow.Author.Needs.{needs}
 use Rattle.item.proofs.repeat_of.Statement.{statement}

@@ -4,7 +4,7 @@ use mathlib.Core.Path.{_≡_, refl, _∙_}
 use mathlib.Core.Bool.{Bool, true, false, not, _&&_, _||_, or-false}
 use lib.Dec.{eqb}
 use Rattle.rules.specs.Items.{frameOk}
-use Rattle.item.proofs.NumberTests.{eqb-sym}
+use Rattle.rules.specs.Laws.Tests.{eqb-sym}
 use Rattle.item.proofs.checks.frame_ok.Statement.{statement}
 use Rattle.item.proofs.checks.frame_ok.Tie as tie
 

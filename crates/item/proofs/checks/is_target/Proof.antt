@@ -1,6 +1,6 @@
 -- By the variant that `whole_of` returned: an integer is the rules' own, and no reading means no target, since a count is below 2 ^ 31.
 use Rattle.rules.specs.Values.{wholeOf}
-use Rattle.item.proofs.Integers.{target-is, not-target}
+use Rattle.values.specs.Integers.{target-is, not-target}
 use native.Mathlib.Omega.{arith}
 use borrow.Author.Needs.{needs}
 use Rattle.item.proofs.checks.is_target.Statement.{statement}

@@ -6,7 +6,7 @@ use lib.Ieee.{Float}
 use mir.Syntax.{w32}
 use mir.Val.{SFits}
 use Rattle.rules.specs.Values.{Whole, wholeOf, wholeFrom}
-use Rattle.item.proofs.Integers.{back, back-is}
+use Rattle.values.specs.Integers.{back, back-is}
 use Rattle.rules.specs.Items.{paramOk}
 use Rattle.item.specs.Table.{ruleOf}
 use Rattle.item.specs.declared.table.ParamRule.{ParamRule}

@@ -14,7 +14,7 @@ use Rattle.rules.specs.Values.{signed, within, float, finite}
 use Rattle.rules.specs.Items.{placeFault}
 use Rattle.item.specs.declared.Item.{Item}
 use Rattle.item.specs.Patterns.{patterns, itemFor}
-use Rattle.item.proofs.Integers.{back, within-limit}
+use Rattle.values.specs.Integers.{back, within-limit}
 use Rattle.item.proofs.checks.place_fault.Statement.{statement}
 use Rattle.item.proofs.checks.place_fault.Tie as tie
 

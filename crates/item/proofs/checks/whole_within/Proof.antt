@@ -1,6 +1,6 @@
 -- By the variant that `whole_of` returned: an integer is the rules' own, and where there is none, no whole number lies between two i32.
 use Rattle.rules.specs.Values.{wholeOf}
-use Rattle.item.proofs.Integers.{within-is, not-within}
+use Rattle.values.specs.Integers.{within-is, not-within}
 use borrow.Author.Needs.{needs}
 use Rattle.item.proofs.checks.whole_within.Statement.{statement}
 use Rattle.item.proofs.checks.whole_within.Tie as tie

@@ -10,7 +10,7 @@ use Rattle.rules.specs.Items.{delay, distance, yaw, changeSpeed, setServo}
 use Rattle.rules.specs.NextCommand.{commandOf}
 use Rattle.item.specs.declared.Item.{Item}
 use Rattle.item.specs.Patterns.{itemFor, patterns}
-use Rattle.item.specs.Wholes.{number31}
+use Rattle.values.specs.Wholes.{number31}
 use Rattle.next_command.specs.declared.Command.the-variants.{Fly, Wait, Near, Turn, Speed, Servo}
 use Rattle.next_command.specs.Orders.{commandFor}
 use Rattle.next_command.specs.Valid.{ServoFits}

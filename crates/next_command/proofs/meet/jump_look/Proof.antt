@@ -10,8 +10,8 @@ use mir.Val.{SFits, toZ, ofZ}
 use mir.ValLaws.{toZ-ofZ, toZ-pos}
 use borrow.Author.Tests.{le-ltb}
 use borrow.Author.Needs.{needs}
-use Rattle.item.specs.declared.values.Whole.{Whole}
-use Rattle.item.specs.declared.values.Whole.the-variants.{Integer}
+use Rattle.values.specs.declared.Whole.{Whole}
+use Rattle.values.specs.declared.Whole.the-variants.{Integer}
 use Rattle.next_command.specs.declared.meet.Met.the-variants.{Follows}
 use Rattle.next_command.specs.declared.meet.Look.{Look}
 use Rattle.next_command.specs.declared.meet.Look.the-variants.{Meets, PassedOver}

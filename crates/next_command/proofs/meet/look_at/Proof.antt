@@ -17,9 +17,9 @@ use Rattle.rules.specs.Items.{isJump, fault}
 use Rattle.rules.specs.NextCommand.{commandOf, targetOf, repeatOf, passedOver}
 use Rattle.rules.specs.Laws.Tests.{both}
 use Rattle.item.specs.declared.Item.{Item}
-use Rattle.item.specs.declared.values.Whole.{Whole}
+use Rattle.values.specs.declared.Whole.{Whole}
 use Rattle.item.specs.Patterns.{itemFor, patterns, patterns-of, values-of}
-use Rattle.item.specs.Wholes.{whole32, number31}
+use Rattle.values.specs.Wholes.{whole32, number31}
 use Rattle.next_command.specs.declared.Command.{Command}
 use Rattle.next_command.specs.declared.Command.the-variants.{Stuck}
 use Rattle.next_command.specs.declared.meet.Met.the-variants.{Ends, Stands, Follows}

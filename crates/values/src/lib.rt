@@ -1,7 +1,7 @@
 // The values of params and coordinates: what their bit patterns stand for, and the tests that the item rules make of them.
 ghost use mathlib.Core.Path.{_≡_};
 ghost use Rattle.rules.specs.Values.{signed, float, finite, atLeastZero, aboveZero, zeroTo, wholeOf, wholeNumber};
-ghost use Rattle.item.specs.Wholes.{whole32, number31};
+ghost use Rattle.values.specs.Wholes.{whole32, number31};
 
 // The float of a bit pattern; of every NaN pattern the NaN.
 pub fn float_of(bits: u32) -> f32

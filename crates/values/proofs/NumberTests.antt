@@ -7,13 +7,6 @@ use native.Mathlib.Omega.{arith}
 use lib.Dec.{eqb, ltb, leb}
 use borrow.Author.Tests.{le-leb, lt-leb, eq-eqb, ne-eqb, ltb-true, ltb-false, leb-true, leb-false, eqb-true, eqb-false}
 
-pub eqb-sym : (a b : ℕ) → eqb a b ≡ eqb b a
-eqb-sym a b = go (eqb b a) refl
-  where
-    go : (t : Bool) → eqb b a ≡ t → eqb a b ≡ t
-    go true h = eq-eqb a b (sym (eqb-true b a h))
-    go false h = ne-eqb a b (λ e. eqb-false b a h (sym e))
-
 pub le-or-eq : (a b : ℕ) → (ltb a b || (eqb a b && true)) ≡ leb a b
 le-or-eq a b = go (ltb a b) (eqb a b) refl refl
   where

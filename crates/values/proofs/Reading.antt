@@ -15,10 +15,11 @@ use lib.Ieee.Back.{round-whole}
 use borrow.Author.Tests.{lt-ltb, le-ltb, le-leb, lt-leb, eq-eqb, ne-eqb, ltb-true, ltb-false, leb-true, leb-false, eqb-true, eqb-false}
 use Rattle.rules.specs.Limits.{halfClock}
 use Rattle.rules.specs.Values.{wholeOf, integer, notWhole}
-use Rattle.item.specs.declared.values.Whole.{Whole}
-use Rattle.item.specs.declared.values.Whole.the-variants.{Integer, NotWhole}
-use Rattle.item.specs.Wholes.{whole32}
-use Rattle.item.proofs.NumberTests.{eqb-sym, le-or-eq, eqb-scaled}
+use Rattle.values.specs.declared.Whole.{Whole}
+use Rattle.values.specs.declared.Whole.the-variants.{Integer, NotWhole}
+use Rattle.values.specs.Wholes.{whole32}
+use Rattle.rules.specs.Laws.Tests.{eqb-sym}
+use Rattle.values.proofs.NumberTests.{le-or-eq, eqb-scaled}
 
 -- -2 ^ 31 and 2 ^ 31
 abbrev pub lowest : Float

@@ -6,9 +6,9 @@ use lib.IntN.{pos}
 use lib.Ieee.{binary32, prec, ofBits, ofInt}
 use lib.Ieee.Back.{round-whole}
 use borrow.Author.Needs.{needs}
-use Rattle.item.proofs.FloatTests.{zero-to-is}
-use Rattle.item.proofs.values.zero_to.Statement.{statement}
-use Rattle.item.proofs.values.zero_to.Tie as tie
+use Rattle.values.proofs.FloatTests.{zero-to-is}
+use Rattle.values.proofs.zero_to.Statement.{statement}
+use Rattle.values.proofs.zero_to.Tie as tie
 
 int-to-float-result : tie.Need-int-to-float-result
 int-to-float-result c = search needs

@@ -6,8 +6,8 @@ use lib.Signed.{mag}
 use lib.Dec.{ltb}
 use Rattle.rules.specs.Limits.{halfClock}
 use Rattle.rules.specs.Values as rules
-use Rattle.item.specs.declared.values.Whole.{Whole}
-use Rattle.item.specs.declared.values.Whole.the-variants.{Integer, NotWhole}
+use Rattle.values.specs.declared.Whole.{Whole}
+use Rattle.values.specs.declared.Whole.the-variants.{Integer, NotWhole}
 
 -- an exact reading, where it is one of 32 signed bits: `mag v` is n both for n and for -(n + 1)
 unfoldable pub whole32 : rules.Whole → Whole

@@ -15,9 +15,9 @@ use Rattle.rules.specs.Limits.{halfClock}
 use Rattle.rules.specs.Values as rules
 use Rattle.rules.specs.Values.{wholeFrom, wholeNumber, within, integer, notWhole}
 use Rattle.rules.specs.Items.{targetIn}
-use Rattle.item.specs.declared.values.Whole.{Whole}
-use Rattle.item.specs.declared.values.Whole.the-variants.{Integer, NotWhole}
-use Rattle.item.specs.Wholes.{whole32, number31}
+use Rattle.values.specs.declared.Whole.{Whole}
+use Rattle.values.specs.declared.Whole.the-variants.{Integer, NotWhole}
+use Rattle.values.specs.Wholes.{whole32, number31}
 
 -- an i32, as it is read back from its bits
 abbrev pub back : ℤ → ℤ

@@ -11,7 +11,7 @@ use lib.Ieee.{Float, nan, inf, fin, binary32, up, down, lt, le, eq, below, level
 use lib.Ieee.Fits.{up-pos, down-pos}
 use lib.Ieee.Exact.{HasValue}
 use borrow.Author.Tests.{lt-ltb, le-leb, ne-eqb}
-use Rattle.item.proofs.NumberTests.{le-or-eq, leb-scaled}
+use Rattle.values.proofs.NumberTests.{le-or-eq, leb-scaled}
 use Rattle.rules.specs.Values.{finite, atLeastZero, aboveZero, zeroTo}
 
 pub finite-is : (x : Float) → (lt (inf true) x && lt x (inf false)) ≡ finite x

@@ -7,8 +7,8 @@ use lib.Ieee.Bits.{nanBits-is, nanBits-above}
 use borrow.Author.Needs.{needs}
 use borrow.Author.Tests.{lt-ltb, le-ltb}
 use Rattle.rules.specs.Values.{float}
-use Rattle.item.proofs.values.float_of.Statement.{statement}
-use Rattle.item.proofs.values.float_of.Tie as tie
+use Rattle.values.proofs.float_of.Statement.{statement}
+use Rattle.values.proofs.float_of.Tie as tie
 
 is-nan : (x : Float) → isNan x ≡ true → nan ≡ x
 unfolding isNan

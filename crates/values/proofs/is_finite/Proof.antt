@@ -1,8 +1,8 @@
 -- The comparisons decide the rule, by the law for every float.
 use lib.Ieee.{ofBits, div, neg}
-use Rattle.item.proofs.FloatTests.{finite-is}
-use Rattle.item.proofs.values.is_finite.Statement.{statement}
-use Rattle.item.proofs.values.is_finite.Tie as tie
+use Rattle.values.proofs.FloatTests.{finite-is}
+use Rattle.values.proofs.is_finite.Statement.{statement}
+use Rattle.values.proofs.is_finite.Tie as tie
 
 returns : tie.Need-returns
 unfolding ofBits div neg

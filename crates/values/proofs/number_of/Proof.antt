@@ -1,10 +1,10 @@
 -- By the variant that `whole_of` returned: an integer is the rules' own, and no reading leaves no number of 31 bits.
 use mathlib.Core.Bool.{true, false}
 use Rattle.rules.specs.Values.{wholeOf}
-use Rattle.item.proofs.Integers.{cast-defined, number-is, no-number}
+use Rattle.values.specs.Integers.{cast-defined, number-is, no-number}
 use borrow.Author.Needs.{needs}
-use Rattle.item.proofs.values.number_of.Statement.{statement}
-use Rattle.item.proofs.values.number_of.Tie as tie
+use Rattle.values.proofs.number_of.Statement.{statement}
+use Rattle.values.proofs.number_of.Tie as tie
 
 whole-of-requires : tie.Need-whole-of-requires
 whole-of-requires c κs = search needs

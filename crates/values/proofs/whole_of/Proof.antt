@@ -13,12 +13,12 @@ use mir.Val.{SFits, toZ, ofZ}
 use mir.ValLaws.{toZ-ofZ}
 use borrow.Author.Needs.{needs, sfits-of}
 use Rattle.rules.specs.Values.{wholeOf}
-use Rattle.item.specs.Wholes.{whole32}
-use Rattle.item.proofs.Reading.{lowest, bound, reading, cut-fits, cut-defined, too-large, too-small}
-use Rattle.item.specs.declared.values.Whole.{Whole}
-use Rattle.item.specs.declared.values.Whole.the-variants.{Integer, NotWhole}
-use Rattle.item.proofs.values.whole_of.Statement.{statement}
-use Rattle.item.proofs.values.whole_of.Tie as tie
+use Rattle.values.specs.Wholes.{whole32}
+use Rattle.values.proofs.Reading.{lowest, bound, reading, cut-fits, cut-defined, too-large, too-small}
+use Rattle.values.specs.declared.Whole.{Whole}
+use Rattle.values.specs.declared.Whole.the-variants.{Integer, NotWhole}
+use Rattle.values.proofs.whole_of.Statement.{statement}
+use Rattle.values.proofs.whole_of.Tie as tie
 
 -- an i64 that is cast to an i32, as it is read back from its bits
 abbrev recast : ℤ → ℤ

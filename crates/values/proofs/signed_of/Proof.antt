@@ -12,8 +12,8 @@ use mir.ValLaws.{toZ-ofZ, toZ-pos}
 use borrow.Author.Needs.{needs, sfits-of}
 use borrow.Author.Tests.{lt-ltb, le-ltb}
 use Rattle.rules.specs.Values.{signed}
-use Rattle.item.proofs.values.signed_of.Statement.{statement}
-use Rattle.item.proofs.values.signed_of.Tie as tie
+use Rattle.values.proofs.signed_of.Statement.{statement}
+use Rattle.values.proofs.signed_of.Tie as tie
 
 cast-result : tie.Need-cast-result
 cast-result c = search needs

@@ -1,8 +1,8 @@
 -- The comparisons decide the rule, by the law for every float.
 use lib.Ieee.{ofBits, div}
-use Rattle.item.proofs.FloatTests.{at-least-zero-is}
-use Rattle.item.proofs.values.at_least_zero.Statement.{statement}
-use Rattle.item.proofs.values.at_least_zero.Tie as tie
+use Rattle.values.proofs.FloatTests.{at-least-zero-is}
+use Rattle.values.proofs.at_least_zero.Statement.{statement}
+use Rattle.values.proofs.at_least_zero.Tie as tie
 
 returns : tie.Need-returns
 unfolding ofBits div

@@ -1,0 +1,4 @@
+-- Laws that several functions' proofs cite.
+pub mod NumberTests
+pub mod FloatTests
+pub mod Reading

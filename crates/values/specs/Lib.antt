@@ -1,0 +1,3 @@
+-- What the contracts of this crate cite besides the rules, and laws of it.
+pub mod Wholes
+pub mod Integers
