@@ -1,7 +1,7 @@
 // The calls of the service, each on the front parts that its record lends.
 use crate::input::Record;
 use crate::part::front;
-use messages::Served;
+use answers::Served;
 use plan::State;
 use service::Advanced;
 

@@ -17,8 +17,8 @@ use Rattle.plan.specs.Places.{itemsIn}
 use Rattle.plan.specs.Ranges.{runRanged, uploadRanged}
 use Rattle.rules.specs.Model.{nextNumber, wholeOk}
 use Rattle.upload.specs.declared.Say.the-variants.{Ack, Ask}
-use Rattle.engine.specs.declared.items.Judged.{Judged}
-use Rattle.engine.specs.declared.items.Judged.the-variants.{Refused, OutOfTurn, Invalid, Valid}
+use Rattle.engine.specs.declared.Judged.{Judged}
+use Rattle.engine.specs.declared.Judged.the-variants.{Refused, OutOfTurn, Invalid, Valid}
 use Rattle.upload.specs.Turns.{withUpload, ended, replaced, tookOne, isFrom, keeps, renews, Took, took, stored, takesItem, itemVerdict, itemTook}
 
 unfoldable pub judgedAs : Bytes → (kind : ℕ) → Upload → Plan → Station → Item → Judged

@@ -1,3 +1,2 @@
--- The engine's step over the state's records and the store, mirroring the code; crate `refine` shows that it is the rules' step.
+-- An item's step over the plan's records and the store, mirroring the code; crate `refine` shows that it is the rules' step.
 pub mod Judging
-pub mod Whole

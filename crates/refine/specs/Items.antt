@@ -32,7 +32,7 @@ use Rattle.plan.specs.View.{planOf, planIn, runIn, uploadIn, view}
 use Rattle.upload.specs.declared.Say.{Say}
 use Rattle.upload.specs.declared.Say.the-variants.{Ack, Ask}
 use Rattle.upload.specs.Turns.{withUpload, ended, replaced, tookOne, isFrom, keeps, renews, Took, took, takesItem, itemVerdict, itemTook}
-use Rattle.engine.specs.Whole.{answerOf, turns, itemDone}
+use Rattle.states.specs.Whole.{answerOf, turns, itemDone}
 use Rattle.refine.specs.Views.{plan-shown, upload-shown, length-shown, view-upload, view-renewed}
 use Rattle.refine.specs.Turned.{Agree, kept, ends, runs}
 

@@ -33,7 +33,7 @@ use Rattle.plan.specs.View.{emptyPlan, planOf, view}
 use Rattle.upload.specs.declared.Say.the-variants.{Silent}
 use Rattle.upload.specs.declared.Turned.{Turned}
 use Rattle.upload.specs.Turns.{ended, emptied, renews, isFrom, othersUpload, ownUpload, countTurned, ackTurned, timerTurned, Took, takesItem, itemVerdict, itemTook, stored}
-use Rattle.engine.specs.Whole.{Done, gives, turnedState, clearedState, othersAmong, clearDone, listDone, requestDone, chooseDone, knownDone, messageDone, timerDone}
+use Rattle.states.specs.Whole.{Done, gives, turnedState, clearedState, othersAmong, clearDone, listDone, requestDone, chooseDone, knownDone, messageDone, timerDone}
 use Rattle.refine.specs.Views.{plan-shown}
 use Rattle.refine.specs.Turned.{Agree, timer-agrees}
 use Rattle.refine.specs.Items.{next-below}

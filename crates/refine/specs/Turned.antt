@@ -24,7 +24,7 @@ use Rattle.upload.specs.declared.Say.{Say}
 use Rattle.upload.specs.declared.Say.the-variants.{Silent, Ack, Ask}
 use Rattle.upload.specs.declared.Turned.{Turned}
 use Rattle.upload.specs.Turns.{stationOf, withUpload, ended, emptied, started, askedAgain, othersUpload, ownUpload, keeps, renews, countTurned, ackTurned, timerTurned}
-use Rattle.engine.specs.Whole.{Done, answerOf, turns, timerDone}
+use Rattle.states.specs.Whole.{Done, answerOf, turns, timerDone}
 use Rattle.refine.specs.Views.{plan-shown, upload-shown, same-state, view-upload, view-renewed}
 
 -- the engine's step shows the rules' model, and gives the rules' answer

@@ -21,7 +21,7 @@ use Rattle.plan.specs.View.{emptyPlan, planOf, planIn, uploadIn, view}
 use Rattle.upload.specs.declared.Say.{Say}
 use Rattle.upload.specs.declared.Turned.{Turned}
 use Rattle.upload.specs.Turns.{withUpload, keeps, renews}
-use Rattle.engine.specs.Whole.{turnedState}
+use Rattle.states.specs.Whole.{turnedState}
 
 module _ (st : State) (s : Bytes) where
   -- the plan and the upload of a kind, as shown

@@ -18,10 +18,10 @@ use Rattle.wire.specs.Table.{isRead, kindOf}
 use Rattle.plan.specs.declared.State.{State}
 use Rattle.plan.specs.View.{view}
 use Rattle.plan.specs.Ranges.{stateRanged, ranged-view}
-use Rattle.engine.specs.Whole.{Done, gives, messageDone, timerDone}
+use Rattle.states.specs.Whole.{Done, gives, messageDone, timerDone}
 use Rattle.refusal.specs.Refusals.{refusalOf, requestOf, HeardMessage, HeardTimer, HeardDone, message-heard, timer-heard, done-heard}
-use Rattle.messages.specs.declared.Served.{Served}
-use Rattle.messages.specs.Answered.{AnsweredBy, Handled}
+use Rattle.answers.specs.declared.Served.{Served}
+use Rattle.answers.specs.Answered.{AnsweredBy, Handled}
 use Rattle.next_command.specs.declared.Advance.{Advance}
 use Rattle.next_command.specs.Advanced as moved
 use Rattle.refine.specs.Steps.{message-steps, timer-steps, done-steps}

@@ -11,9 +11,9 @@ use Rattle.rules.specs.Calls.{Call, refuses, heard}
 use Rattle.rules.specs.Step.{Answer, refused, outcomeOf, replyId, replyBytes, commandIn}
 use Rattle.plan.specs.declared.State.{State}
 use Rattle.plan.specs.View.{view}
-use Rattle.engine.specs.Whole.{Done, gives}
+use Rattle.states.specs.Whole.{Done, gives}
 use Rattle.refusal.specs.Refusals.{refusalOf, refused-with}
-use Rattle.messages.specs.declared.Served.{Served}
+use Rattle.answers.specs.declared.Served.{Served}
 use Rattle.next_command.specs.Orders.{orderOf}
 use Rattle.refine.specs.Promise as promise
 use Rattle.refine.specs.Promise.{Result}

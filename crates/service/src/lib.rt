@@ -7,8 +7,8 @@ ghost use Rattle.rules.specs.Messages.{station};
 ghost use Rattle.rules.specs.Calls as calls;
 ghost use Rattle.plan.specs.View.{freshState};
 ghost use Rattle.service.specs.Calls.{Serves, served, advanced};
-use messages::Served;
-use messages::say::NO_REPLY;
+use answers::Served;
+use answers::say::NO_REPLY;
 use next_command::Command;
 use plan::State;
 
@@ -76,7 +76,7 @@ pub fn timer(state: State, store: &[u8], reply: &mut [u8], kind: u8, clock: u32)
             len: 0,
         };
     }
-    messages::turn::on_timer(state, kind, clock, reply)
+    messages::on_timer(state, kind, clock, reply)
 }
 
 // A "command done" call. Wrong answers that this rules out: an answer without moving on to its item, and outcome 0, as if a message had been written.

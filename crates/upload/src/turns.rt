@@ -21,6 +21,8 @@ pub const ACCEPTED: u8 = 0;
 
 const NO_SPACE: u8 = 4;
 
+pub const INVALID_SEQUENCE: u8 = 13;
+
 pub const DENIED: u8 = 14;
 
 const CANCELLED: u8 = 15;

@@ -1,6 +1,6 @@
 // The calls of the service, with what a host hands in beside the payload.
 ghost use Rattle.io.specs.Counts.{Counts};
-use messages::Served;
+use answers::Served;
 use plan::State;
 use service::Advanced;
 

@@ -1,7 +1,7 @@
 // Uploads made of items with the same fields.
 use crate::calls::Host;
 use crate::calls::message;
-use messages::Served;
+use answers::Served;
 use plan::State;
 
 const COUNT: u32 = 44;

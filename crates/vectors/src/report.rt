@@ -3,7 +3,7 @@ use crate::text::byte_at;
 use crate::text::next_bytes;
 use crate::text::next_number;
 use crate::text::wide;
-use messages::Served;
+use answers::Served;
 
 // What a reply buffer is filled with before a call.
 pub const FILL: u8 = 0xa5;

@@ -16,7 +16,7 @@ use crate::text::find;
 use crate::text::next_bytes;
 use crate::text::next_number;
 use crate::text::seven_numbers;
-use messages::Served;
+use answers::Served;
 use next_command::Command;
 use plan::State;
 

@@ -26,10 +26,10 @@ use Rattle.wire.specs.Structs.{setCurrentMessage, countMessage, ackMessage, req
 use Rattle.plan.specs.declared.State.{State}
 use Rattle.plan.specs.View.{planOf}
 use Rattle.refusal.specs.Refusals.{requestOf}
-use Rattle.engine.specs.Whole.{Done, listDone, requestDone, chooseDone, othersAmong, clearDone, knownDone, messageDone}
-use Rattle.messages.specs.declared.Served.{Served}
-use Rattle.messages.specs.declared.say.Said.{Said}
-use Rattle.messages.specs.Answered.{Spoken, AnsweredBy, Handled, served, spoken-answered}
+use Rattle.states.specs.Whole.{Done, listDone, requestDone, chooseDone, othersAmong, clearDone, knownDone, messageDone}
+use Rattle.answers.specs.declared.Served.{Served}
+use Rattle.answers.specs.declared.say.Said.{Said}
+use Rattle.answers.specs.Answered.{Spoken, AnsweredBy, Handled, served, spoken-answered}
 use Rattle.protocol.proofs.Requests.{kind-known, item-left}
 use Rattle.protocol.proofs.answer.Statement.{statement}
 use Rattle.protocol.proofs.answer.Tie as tie

@@ -1,0 +1,71 @@
+-- By what is said: each way's message is the rules' answer, and it is written.
+use Prim.Native.Nat.{ℕ}
+use mathlib.Core.Path.{_≡_}
+use borrow.Author.Needs.{needs}
+use Rattle.rules.specs.Limits.{replied}
+use Rattle.rules.specs.Payload.{Bytes}
+use Rattle.rules.specs.Messages.{station, ack, requestInt, encode}
+use Rattle.rules.specs.Layouts.{requestIntId}
+use Rattle.rules.specs.Step.{says}
+use Rattle.reply.specs.Written.{Written}
+use Rattle.upload.specs.declared.Say.{Say}
+use Rattle.upload.specs.declared.Say.the-variants.{Ack, Ask}
+use Rattle.states.specs.Whole.{answerOf}
+use Rattle.answers.specs.declared.say.Said.{Said}
+use Rattle.answers.specs.Answered.{Spoken, said, written-spoken}
+use Rattle.answers.proofs.say.speak.Statement.{statement}
+use Rattle.answers.proofs.say.speak.Tie as tie
+
+module _ (say : Say) (system component kind : ℕ) (b b′ : Bytes) where
+  acked : (result number : ℕ) (r : Said) → say ≡ Ack result number
+      → Spoken (says (ack (station system component) result kind number)) b b′ r → Spoken (answerOf say (station system component) kind) b b′ r
+  acked result number r e a = rw e a
+
+  asked : (seq n : ℕ) → say ≡ Ask seq → Written (encode (requestInt (station system component) seq kind)) b b′ n
+      → Spoken (answerOf say (station system component) kind) b b′ (said replied requestIntId n)
+  asked seq n e w = rw e (written-spoken (requestInt (station system component) seq kind) b b′ n w)
+
+enum-told : tie.Need-enum-told
+enum-told c = search needs
+
+enum-known-say : tie.Need-enum-known-say
+enum-known-say c = search needs
+
+ack-requires : tie.Need-ack-requires
+ack-requires c κs = search needs
+
+enum-known-say-2 : tie.Need-enum-known-say-2
+enum-known-say-2 c = search needs
+
+write-request-int-requires : tie.Need-write-request-int-requires
+write-request-int-requires c κs = search needs
+
+returns : tie.Need-returns
+returns c = search needs
+
+same-length : tie.Need-same-length
+same-length c = search needs
+
+returns-2 : tie.Need-returns-2
+returns-2 c = search (acked, needs)
+
+same-length-2 : tie.Need-same-length-2
+same-length-2 c = search needs
+
+returns-3 : tie.Need-returns-3
+returns-3 c = search (asked, needs)
+
+pub speak-spec : {M : Type 1} → statement M
+speak-spec =
+    tie.close
+    (tie.spec
+    enum-told
+    enum-known-say
+    ack-requires
+    enum-known-say-2
+    write-request-int-requires
+    returns
+    same-length
+    returns-2
+    same-length-2
+    returns-3)

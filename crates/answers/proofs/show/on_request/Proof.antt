@@ -1,0 +1,89 @@
+-- Below the plan's length the fetched item is written, else ACK 13. A plan's length is in its range, so the place is in the store.
+use Prim.Native.Nat.{ℕ, _≤_, _<_}
+use mathlib.Core.Path.{_≡_, sym}
+use mathlib.Core.Bool.{true, cond, _&&_}
+use native.Mathlib.Omega.{arith}
+use lib.Dec.{eqb}
+use borrow.Author.Needs.{needs}
+use borrow.Author.Tests.{lt-ltb, le-ltb}
+use Rattle.rules.specs.Limits.{flight, rally, sizeOf, replied, invalidSequence}
+use Rattle.rules.specs.Payload.{Bytes}
+use Rattle.rules.specs.Messages.{station, ack, itemInt, encode, itemIn}
+use Rattle.rules.specs.Layouts.{itemIntId}
+use Rattle.rules.specs.Step.{says}
+use Rattle.wire.specs.declared.structs.Patterns.{Patterns}
+use Rattle.wire.specs.Structs.{patternsItem}
+use Rattle.plan.specs.declared.State.{State}
+use Rattle.plan.specs.Places.{itemAt}
+use Rattle.plan.specs.View.{planOf}
+use Rattle.plan.specs.Ranges.{stateRanged}
+use Rattle.reply.specs.Written.{Written}
+use Rattle.states.specs.Whole.{requestDone}
+use Rattle.answers.specs.declared.say.Said.{Said}
+use Rattle.answers.specs.Answered.{Spoken, AnsweredBy, served, written-answered, spoken-answered}
+use Rattle.plan.specs.Ranged.{plan-ranges}
+use Rattle.answers.proofs.show.on_request.Statement.{statement}
+use Rattle.answers.proofs.show.on_request.Tie as tie
+
+within : (st : State) (kind seq : ℕ) → stateRanged st ≡ true → kind ≤ rally → seq < planOf st kind .len → seq < sizeOf kind
+within st kind seq ranged known below = omega (arith, plan-ranges st kind ranged known .len)
+
+module _ (st : State) (store : Bytes) (system component kind seq : ℕ) (b b′ : Bytes) where
+  shown : (field : ℕ) (patterns : Patterns) (n : ℕ) → seq < planOf st kind .len
+      → patternsItem patterns ≡ itemIn (itemAt store (planOf st kind .half) kind seq)
+      → field ≡ cond (eqb kind flight && eqb seq (st .current)) 1 0
+      → Written (encode (itemInt (station system component) field (patternsItem patterns))) b b′ n
+      → AnsweredBy (requestDone st store (station system component) kind seq) b b′ (served st replied itemIntId n)
+  unfolding requestDone
+  shown field patterns n below fetched current w =
+      rw (lt-ltb _ _ below, sym fetched, sym current) (written-answered st (itemInt (station system component) field (patternsItem patterns)) b b′ n w)
+
+  past : (s : Said) → planOf st kind .len ≤ seq → Spoken (says (ack (station system component) invalidSequence kind 0)) b b′ s
+      → AnsweredBy (requestDone st store (station system component) kind seq) b b′ (served st (s .outcome) (s .id) (s .len))
+  unfolding requestDone
+  past s above spoken = rw (le-ltb _ _ above) (spoken-answered st _ b b′ s spoken)
+
+mul-plan : tie.Need-mul-plan
+mul-plan c = search needs
+
+element-copy-out-plan : tie.Need-element-copy-out-plan
+element-copy-out-plan c = search needs
+
+fetch-patterns-requires : tie.Need-fetch-patterns-requires
+fetch-patterns-requires c κs = search (within, needs)
+
+current-field-requires : tie.Need-current-field-requires
+current-field-requires c κs = search needs
+
+write-item-int-requires : tie.Need-write-item-int-requires
+write-item-int-requires c κs = search needs
+
+same-length : tie.Need-same-length
+same-length c = search needs
+
+returns : tie.Need-returns
+returns c = search (shown, needs)
+
+ack-requires : tie.Need-ack-requires
+ack-requires c κs = search needs
+
+same-length-2 : tie.Need-same-length-2
+same-length-2 c = search needs
+
+returns-2 : tie.Need-returns-2
+returns-2 c = search (past, needs)
+
+pub on-request-spec : {M : Type 1} → statement M
+on-request-spec =
+    tie.close
+    (tie.spec
+    mul-plan
+    element-copy-out-plan
+    fetch-patterns-requires
+    current-field-requires
+    write-item-int-requires
+    same-length
+    returns
+    ack-requires
+    same-length-2
+    returns-2)

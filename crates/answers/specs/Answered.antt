@@ -1,0 +1,57 @@
+-- A call as it is answered: the state after it and the rules' answer, with the reply in the buffer.
+use Prim.Native.Nat.{ℕ}
+use mathlib.Core.Path.{_≡_, refl}
+use mathlib.Core.List.{_++_}
+use lib.ListN.{length, drop}
+use Rattle.rules.specs.Limits.{replied}
+use Rattle.rules.specs.Payload.{Bytes}
+use Rattle.rules.specs.Messages.{Message, idOf, encode}
+use Rattle.rules.specs.Step.{Answer, says, outcomeOf, replyId, replyBytes}
+use Rattle.plan.specs.declared.State.{State}
+use Rattle.reply.specs.Written.{Written}
+use Rattle.states.specs.Whole.{Done}
+use Rattle.answers.specs.declared.Served.{Served}
+use Rattle.answers.specs.declared.say.Said.{Said}
+
+-- the buffer held b and then holds b′: "Outcome 0 also returns the reply's id and length; every other returns 0 for both"; "buffer past
+-- the reply unchanged"
+pub record Spoken (a : Answer) (b b′ : Bytes) (r : Said) : Type 0 where
+  pub outcome : r .outcome ≡ outcomeOf a
+  pub id : r .id ≡ replyId a
+  pub len : r .len ≡ length (replyBytes a)
+  pub buffer : b′ ≡ replyBytes a ++ drop (length (replyBytes a)) b
+
+-- the same with the state after the call
+pub record Answered (st : State) (a : Answer) (b b′ : Bytes) (r : Served) : Type 0 where
+  pub state : r .state ≡ st
+  pub outcome : r .outcome ≡ outcomeOf a
+  pub id : r .id ≡ replyId a
+  pub len : r .len ≡ length (replyBytes a)
+  pub buffer : b′ ≡ replyBytes a ++ drop (length (replyBytes a)) b
+
+-- with the state and the answer that the engine's step gives
+abbrev pub AnsweredBy : Done → (b b′ : Bytes) → Served → Type 0
+AnsweredBy d b b′ r = Answered (d .state) (d .answer) b b′ r
+
+-- the same, with the store after the call
+pub record Handled (d : Done) (s′ b b′ : Bytes) (r : Served) : Type 0 where
+  pub answered : AnsweredBy d b b′ r
+  pub store : s′ ≡ d .store
+
+-- ---- laws
+
+abbrev pub said : (outcome id len : ℕ) → Said
+said outcome id len = record { outcome = outcome; id = id; len = len }
+
+abbrev pub served : State → (outcome id len : ℕ) → Served
+served st outcome id len = record { state = st; outcome = outcome; id = id; len = len }
+
+-- a message that was written is the answer
+pub written-spoken : (m : Message) (b b′ : Bytes) (n : ℕ) → Written (encode m) b b′ n → Spoken (says m) b b′ (said replied (idOf m) n)
+written-spoken m b b′ n w = record { outcome = refl; id = refl; len = w .size; buffer = w .held }
+
+pub written-answered : (st : State) (m : Message) (b b′ : Bytes) (n : ℕ) → Written (encode m) b b′ n → Answered st (says m) b b′ (served st replied (idOf m) n)
+written-answered st m b b′ n w = record { state = refl; outcome = refl; id = refl; len = w .size; buffer = w .held }
+
+pub spoken-answered : (st : State) (a : Answer) (b b′ : Bytes) (s : Said) → Spoken a b b′ s → Answered st a b b′ (served st (s .outcome) (s .id) (s .len))
+spoken-answered st a b b′ s e = record { state = refl; outcome = e .outcome; id = e .id; len = e .len; buffer = e .buffer }

@@ -1,0 +1,2 @@
+-- What the contracts of answering cite.
+pub mod Answered

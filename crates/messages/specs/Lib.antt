@@ -1,3 +1,0 @@
--- What the contracts of answering cite.
-pub mod Answered
-pub mod Ranged

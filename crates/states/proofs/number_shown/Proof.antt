@@ -1,0 +1,25 @@
+-- By the test of the length.
+use mathlib.Core.Path.{_≡_}
+use borrow.Author.Tests.{eq-eqb, ne-eqb}
+use Rattle.plan.specs.declared.Plan.{Plan}
+use Rattle.states.specs.Whole.{numberShown}
+use borrow.Author.Needs.{needs}
+use Rattle.states.proofs.number_shown.Statement.{statement}
+use Rattle.states.proofs.number_shown.Tie as tie
+
+none : (p : Plan) → p .len ≡ 0 → 0 ≡ numberShown p
+unfolding numberShown
+none p e = simp (eq-eqb (p .len) 0 e)
+
+some : (p : Plan) → (p .len ≡ 0 → ⊥) → p .number ≡ numberShown p
+unfolding numberShown
+some p e = simp (ne-eqb (p .len) 0 e)
+
+returns : tie.Need-returns
+returns c = search (none, needs)
+
+returns-2 : tie.Need-returns-2
+returns-2 c = search (some, needs)
+
+pub number-shown-spec : {M : Type 1} → statement M
+number-shown-spec = tie.close (tie.spec returns returns-2)
