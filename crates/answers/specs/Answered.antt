@@ -29,7 +29,7 @@ pub record Answered (st : State) (a : Answer) (b b′ : Bytes) (r : Served) : Ty
   pub len : r .len ≡ length (replyBytes a)
   pub buffer : b′ ≡ replyBytes a ++ drop (length (replyBytes a)) b
 
--- with the state and the answer that the engine's step gives
+-- with the state and the answer that the code's step gives
 abbrev pub AnsweredBy : Done → (b b′ : Bytes) → Served → Type 0
 AnsweredBy d b b′ r = Answered (d .state) (d .answer) b b′ r
 

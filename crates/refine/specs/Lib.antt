@@ -1,4 +1,4 @@
--- The engine's step commutes with `view`: what a state and a store show after it is the rules' step of what they showed before.
+-- The code's step commutes with `view`: what a state and a store show after it is the rules' step of what they showed before.
 pub mod Views
 pub mod Turned
 pub mod Items

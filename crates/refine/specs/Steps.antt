@@ -1,4 +1,4 @@
--- What the engine's step keeps of the promise: the model, the answer, halves, and every byte beside the next place of an upload.
+-- What the code's step keeps of the promise: the model, the answer, halves, and every byte beside the next place of an upload.
 use Prim.Native.Nat.{ℕ, _+_, _≤_, _<_}
 use native.Mathlib.Omega.{arith}
 use mathlib.Core.Path.{_≡_, refl, sym, ap, ap₂, subst, _∙_}
@@ -269,7 +269,7 @@ module _ (st : State) (s : Bytes) (three : length (st .plans) ≡ length kinds) 
 
 -- ---- what every call keeps of the promise
 
--- the engine's step d of call c
+-- the code's step d of call c
 pub record Steps (c : Call) (st : State) (s : Bytes) (d : Done) : Type 0 where
   pub model : view (d .state) (d .store) ≡ step (view st s) c .model
   pub answer : d .answer ≡ step (view st s) c .answer

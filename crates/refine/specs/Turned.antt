@@ -27,7 +27,7 @@ use Rattle.upload.specs.Turns.{stationOf, withUpload, ended, emptied, started, 
 use Rattle.states.specs.Whole.{Done, answerOf, turns, timerDone}
 use Rattle.refine.specs.Views.{plan-shown, upload-shown, same-state, view-upload, view-renewed}
 
--- the engine's step shows the rules' model, and gives the rules' answer
+-- the code's step shows the rules' model, and gives the rules' answer
 pub record Agree (d : Done) (m : Stepped) : Type 0 where
   pub model : view (d .state) (d .store) ≡ m .model
   pub answer : d .answer ≡ m .answer

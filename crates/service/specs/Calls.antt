@@ -32,7 +32,7 @@ served r = record { state = r .state; outcome = r .outcome; id = r .id; len = r 
 abbrev pub advanced : Advanced → Result State
 advanced r = record { state = r .state; outcome = r .outcome; id = 0; len = 0; command = orderOf (r .command) }
 
--- ---- from the engine's step to the promise
+-- ---- from the code's step to the promise
 
 -- a result that gives the step's state and answer
 pub record Gives (d : Done) (s′ b b′ : Bytes) (r : Result State) : Type 0 where

@@ -1,4 +1,4 @@
--- The engine's step over the whole state and the store, for everything that a message or timer call may say.
+-- The code's step over the whole state and the store, for everything that a message or timer call may say.
 use Prim.Native.Nat.{ℕ, _+_}
 use mathlib.Core.List.{List, [], _∷_}
 use mathlib.Core.Bool.{Bool, true, false, not, cond, _&&_, _||_}
