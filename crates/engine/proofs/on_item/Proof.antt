@@ -54,14 +54,14 @@ module _ (s : Bytes) (kind : ℕ) (p : Plan) (from : Station) (now : ℕ) (item 
     in-range : (r : Run) → j ≡ Valid r → InRange (sizeOf kind) r
     in-range r e = running-in-range (sizeOf kind) (p .upload) r ranged (valid-running s kind (p .upload) p from item r (sym is ∙ e))
 
-    place : (r : Run) → j ≡ Valid r → r .next < sizeOf kind
-    place r e = let known = in-range r e in omega arith
+    place : (r : Run) (k : ℕ) → j ≡ Valid r → k ≤ r .next → k < sizeOf kind
+    place r k e upto = let known = in-range r e in omega arith
 
-    long : (r : Run) (s′ : Bytes) → j ≡ Valid r → storeBytes ≤ length s → kind ≤ rally
-        → s′ ≡ putAt s (not (p .half)) kind (r .next) (itemOf item) → storeBytes ≤ length s′
-    long r s′ e enough known es =
+    long : (k : ℕ) (s′ : Bytes) → k < sizeOf kind → storeBytes ≤ length s → kind ≤ rally
+        → s′ ≡ putAt s (not (p .half)) kind k (itemOf item) → storeBytes ≤ length s′
+    long k s′ fits enough known es =
         omega
-        (arith, ap length es, length-stays s enough (itemOf item) (length-itemOf item) (not (p .half)) kind (r .next) known (place r e))
+        (arith, ap length es, length-stays s enough (itemOf item) (length-itemOf item) (not (p .half)) kind k known fits)
 
 judge-requires : tie.Need-judge-requires
 judge-requires c κs = search needs
@@ -94,7 +94,7 @@ keep-requires : tie.Need-keep-requires
 keep-requires c κs = search (place, needs)
 
 take-requires : tie.Need-take-requires
-take-requires c κs = (search (long, needs), search (in-range, needs))
+take-requires c κs = (search (long, place, needs), search (in-range, needs))
 
 same-length : tie.Need-same-length
 same-length c = search needs
