@@ -1,14 +1,16 @@
 -- A call as it is answered: the state after it and the rules' answer, with the reply in the buffer.
-use Prim.Native.Nat.{ℕ}
+use Prim.Native.Nat.{ℕ, _≤_}
 use mathlib.Core.Path.{_≡_, refl}
 use mathlib.Core.List.{_++_}
+use native.Mathlib.Omega.{arith}
 use lib.ListN.{length, drop}
-use Rattle.rules.specs.Limits.{replied}
+use Rattle.rules.specs.Limits.{replied, replyBytesMin}
 use Rattle.rules.specs.Payload.{Bytes}
 use Rattle.rules.specs.Messages.{Message, idOf, encode}
+use Rattle.rules.specs.Laws.Layout.{encode-fits}
 use Rattle.rules.specs.Step.{Answer, says, outcomeOf, replyId, replyBytes}
 use Rattle.plan.specs.declared.State.{State}
-use Rattle.reply.specs.Written.{Written}
+use Rattle.reply.specs.Written.{Trimmed, Written}
 use Rattle.states.specs.Whole.{Done}
 use Rattle.answers.specs.declared.Served.{Served}
 use Rattle.answers.specs.declared.say.Said.{Said}
@@ -46,12 +48,16 @@ said outcome id len = record { outcome = outcome; id = id; len = len }
 abbrev pub served : State → (outcome id len : ℕ) → Served
 served st outcome id len = record { state = st; outcome = outcome; id = id; len = len }
 
--- a message that was written is the answer
-pub written-spoken : (m : Message) (b b′ : Bytes) (n : ℕ) → Written (encode m) b b′ n → Spoken (says m) b b′ (said replied (idOf m) n)
-written-spoken m b b′ n w = record { outcome = refl; id = refl; len = w .size; buffer = w .held }
+-- a message that was written into a reply buffer is the answer
+module _ (m : Message) (b b′ : Bytes) (n : ℕ) (enough : replyBytesMin ≤ length b) (w : Written (encode m) b b′ n) where
+  trimmed : Trimmed (encode m) b b′ n
+  trimmed = w .fits (omega (arith, encode-fits m))
 
-pub written-answered : (st : State) (m : Message) (b b′ : Bytes) (n : ℕ) → Written (encode m) b b′ n → Answered st (says m) b b′ (served st replied (idOf m) n)
-written-answered st m b b′ n w = record { state = refl; outcome = refl; id = refl; len = w .size; buffer = w .held }
+  pub written-spoken : Spoken (says m) b b′ (said replied (idOf m) n)
+  written-spoken = record { outcome = refl; id = refl; len = trimmed .size; buffer = trimmed .held }
+
+  pub written-answered : (st : State) → Answered st (says m) b b′ (served st replied (idOf m) n)
+  written-answered st = record { state = refl; outcome = refl; id = refl; len = trimmed .size; buffer = trimmed .held }
 
 pub spoken-answered : (st : State) (a : Answer) (b b′ : Bytes) (s : Said) → Spoken a b b′ s → Answered st a b b′ (served st (s .outcome) (s .id) (s .len))
 spoken-answered st a b b′ s e = record { state = refl; outcome = e .outcome; id = e .id; len = e .len; buffer = e .buffer }

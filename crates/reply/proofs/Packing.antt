@@ -1,10 +1,10 @@
 -- A message's bytes, field by field: how many there are, a byte is its own one byte, and a text is its own bytes.
-use Prim.Native.Nat.{ℕ, zero, suc, _<_, _≤_}
+use Prim.Native.Nat.{ℕ, zero, suc, _<_}
 use mathlib.Core.Path.{_≡_, refl, ap, sym, subst, _∙_}
 use mathlib.Core.List.{List, [], _∷_, _++_}
 use native.Mathlib.Nat.{mod-eq-of-lt}
 use native.Mathlib.Omega.{arith}
-use lib.Dec.{T, ltb, leb, ltb→lt, leb→le}
+use lib.Dec.{T, ltb, ltb→lt}
 use lib.ListN.{length, getD}
 use Rattle.rules.specs.Payload.{Bytes, bytesOf}
 use Rattle.rules.specs.Layouts.{Field, chars, layoutOf, pack}
@@ -27,14 +27,12 @@ pack-chars (suc n) at (t ∷ ts) vs fs e h =
     let rest : pack (chars (suc at) n ++ fs) (ts ++ vs) ≡ ts ++ pack fs vs = pack-chars n (suc at) ts vs fs (omega arith) (λ i. h (suc i)) in
     λ i. first i ++ rest i
 
--- what writing asks of a message's bytes and of a buffer of 54 bytes or more
-pub ready : (m : Message) (bs out : Bytes) → T (ltb 0 (layoutOf (idOf m) .full)) → T (leb (layoutOf (idOf m) .full) 54) → bs ≡ encode m → 54 ≤ length out
-    → (length bs ≡ layoutOf (idOf m) .full) × ((0 < length bs) × (length bs ≤ length out))
-ready m bs out some most e h =
+-- what writing asks of a message's bytes
+pub ready : (m : Message) (bs : Bytes) → T (ltb 0 (layoutOf (idOf m) .full)) → bs ≡ encode m → (length bs ≡ layoutOf (idOf m) .full) × (0 < length bs)
+ready m bs some e =
     let full : length bs ≡ layoutOf (idOf m) .full = ap length e ∙ length-encode m in
     let low : 0 < layoutOf (idOf m) .full = ltb→lt 0 (layoutOf (idOf m) .full) some in
-    let high : layoutOf (idOf m) .full ≤ 54 = leb→le (layoutOf (idOf m) .full) 54 most in
-    (full, (omega arith, omega arith))
+    (full, omega arith)
 
 -- bytes that are a message's are written as the message
 pub written-as : (m : Message) (bs before after : Bytes) (n : ℕ) → bs ≡ encode m → Written bs before after n → Written (encode m) before after n

@@ -36,14 +36,18 @@ fn trimmed_len(bytes: &[u8], full: usize) -> usize
     n
 }
 
-// Writes the bytes of a message of this id, trimmed, and answers how many. The rest of out stays.
+// Writes the bytes of a message of this id, trimmed, and answers how many. The rest of out stays; all of it if it is shorter than the
+// message's full length, and 0 is answered.
 pub fn write_trimmed(id: u32, bytes: &[u8], out: &mut [u8]) -> usize
     requires { ⌜ length (now bytes) ≡ layoutOf id .full ⌝ }
     requires { ⌜ 0 < length (now bytes) ⌝ }
-    requires { ⌜ length (now bytes) ≤ length (now out) ⌝ }
     ensures { λ r. ⌜ Written (now (bytes .entry)) (now (out .entry)) (now (out .exit)) r ⌝ }
 {
-    let n = trimmed_len(bytes, wire::full_of(id));
+    let full = wire::full_of(id);
+    if out.len() < full {
+        return 0;
+    }
+    let n = trimmed_len(bytes, full);
     copy(bytes, n, out, 0);
     n
 }

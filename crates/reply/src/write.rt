@@ -1,7 +1,5 @@
-// Writing each message into a lent buffer: the trimmed payload at its start, the rest unchanged, the length answered.
-ghost use Prim.Native.Nat.{_≤_};
-ghost use lib.ListN.{length};
-ghost use Rattle.rules.specs.Limits.{replyBytesMin};
+// Writing each message into a lent buffer: the trimmed payload at its start, the rest unchanged, the length answered. A buffer that is
+// shorter than the message's full length stays as it is.
 ghost use Rattle.rules.specs.Messages.{encode};
 ghost use Rattle.wire.specs.Structs.{currentMessage, countMessage, ackMessage, requestIntMessage, itemIntMessage, statustextMessage};
 ghost use Rattle.reply.specs.Written.{Written};
@@ -26,7 +24,6 @@ use wire::STATUSTEXT_ID;
 use wire::Statustext;
 
 pub fn write_current(m: Current, out: &mut [u8]) -> usize
-    requires { ⌜ replyBytesMin ≤ length (now out) ⌝ }
     ensures { λ r. ⌜ Written (encode (currentMessage m)) (now (out .entry)) (now (out .exit)) r ⌝ }
 {
     let bytes = current_bytes(m);
@@ -34,7 +31,6 @@ pub fn write_current(m: Current, out: &mut [u8]) -> usize
 }
 
 pub fn write_count(m: Count, out: &mut [u8]) -> usize
-    requires { ⌜ replyBytesMin ≤ length (now out) ⌝ }
     ensures { λ r. ⌜ Written (encode (countMessage m)) (now (out .entry)) (now (out .exit)) r ⌝ }
 {
     let bytes = count_bytes(m);
@@ -42,7 +38,6 @@ pub fn write_count(m: Count, out: &mut [u8]) -> usize
 }
 
 pub fn write_ack(m: Ack, out: &mut [u8]) -> usize
-    requires { ⌜ replyBytesMin ≤ length (now out) ⌝ }
     ensures { λ r. ⌜ Written (encode (ackMessage m)) (now (out .entry)) (now (out .exit)) r ⌝ }
 {
     let bytes = ack_bytes(m);
@@ -50,7 +45,6 @@ pub fn write_ack(m: Ack, out: &mut [u8]) -> usize
 }
 
 pub fn write_request_int(m: RequestInt, out: &mut [u8]) -> usize
-    requires { ⌜ replyBytesMin ≤ length (now out) ⌝ }
     ensures { λ r. ⌜ Written (encode (requestIntMessage m)) (now (out .entry)) (now (out .exit)) r ⌝ }
 {
     let bytes = request_int_bytes(m);
@@ -58,7 +52,6 @@ pub fn write_request_int(m: RequestInt, out: &mut [u8]) -> usize
 }
 
 pub fn write_item_int(m: ItemInt, out: &mut [u8]) -> usize
-    requires { ⌜ replyBytesMin ≤ length (now out) ⌝ }
     ensures { λ r. ⌜ Written (encode (itemIntMessage m)) (now (out .entry)) (now (out .exit)) r ⌝ }
 {
     let patterns = m.patterns;
@@ -67,7 +60,6 @@ pub fn write_item_int(m: ItemInt, out: &mut [u8]) -> usize
 }
 
 pub fn write_statustext(m: Statustext, out: &mut [u8]) -> usize
-    requires { ⌜ replyBytesMin ≤ length (now out) ⌝ }
     ensures { λ r. ⌜ Written (encode (statustextMessage m)) (now (out .entry)) (now (out .exit)) r ⌝ }
 {
     let bytes = statustext_bytes(m);

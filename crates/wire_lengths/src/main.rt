@@ -1,7 +1,7 @@
 // Reads payloads of 0 to 300 bytes, and writes them again: missing bytes read as zero, and bytes past the full length are ignored. A
-// line for each message: what was tried, its id, and `ok`, or `differs` where a length fails.
+// buffer that is shorter than the full length stays as it is. A line for each message: what was tried, its id, and `ok`, or `differs`
+// where a length fails.
 ghost use mathlib.Core.Path.{_≡_};
-ghost use Prim.Native.Nat.{_≤_};
 ghost use lib.ListN.{length};
 
 // What a buffer holds before it is written to.
@@ -11,6 +11,7 @@ fn main() {
     let p = payload();
     targets(&p);
     whole(&p);
+    rooms(&p);
 }
 
 fn targets(p: &[u8]) {
@@ -30,6 +31,13 @@ fn whole(p: &[u8]) {
     say_length(73, lengths(73, p, 38));
 }
 
+fn rooms(p: &[u8]) {
+    say_room(44, needs_room(44, p, 8, 9));
+    say_room(47, needs_room(47, p, 7, 8));
+    say_room(51, needs_room(51, p, 4, 5));
+    say_room(73, needs_room(73, p, 37, 38));
+}
+
 fn say_target(id: u64, holds: bool) {
     io::write_all(1, b"target and kind of 0 to 300 bytes, message ");
     say(id, holds);
@@ -37,6 +45,11 @@ fn say_target(id: u64, holds: bool) {
 
 fn say_length(id: u64, holds: bool) {
     io::write_all(1, b"0 to 300 bytes read and written, message ");
+    say(id, holds);
+}
+
+fn say_room(id: u64, holds: bool) {
+    io::write_all(1, b"buffers one byte short and just long enough, message ");
     say(id, holds);
 }
 
@@ -105,9 +118,7 @@ fn heads(id: u32, p: &[u8], full: usize, system: usize, component: usize, kind: 
 }
 
 // A payload read and written again.
-fn again(id: u32, p: &[u8], out: &mut [u8]) -> usize
-    requires { ⌜ 54 ≤ length (now out) ⌝ }
-{
+fn again(id: u32, p: &[u8], out: &mut [u8]) -> usize {
     match id {
         44 => reply::write_count(wire::read_count(p), out),
         47 => reply::write_ack(wire::read_ack(p), out),
@@ -145,4 +156,24 @@ fn lengths(id: u32, p: &[u8], full: usize) -> bool {
         n += 1;
     }
     true
+}
+
+// The same into the first bytes of a buffer.
+fn again_in(id: u32, p: &[u8], out: &mut [u8], room: usize) -> usize {
+    if out.len() < room {
+        return room;
+    }
+    again(id, p, &mut out[..room])
+}
+
+// Whether a buffer then holds the bytes wanted, and past them what it held before.
+fn gives(id: u32, p: &[u8], room: usize, want: &[u8]) -> bool {
+    let mut out = [BEFORE; 60];
+    let n = again_in(id, p, &mut out, room);
+    held(&out, n, want)
+}
+
+// A shorter buffer stays, and a buffer of the full length is written to.
+fn needs_room(id: u32, p: &[u8], short: usize, full: usize) -> bool {
+    gives(id, p, short, b"") & gives(id, p, full, front(p, full))
 }

@@ -1,14 +1,14 @@
 -- The table of layouts: each row's fields follow one another from 0 to its full length, and what is packed by them is read back.
-use Prim.Native.Nat.{ℕ, _+_, _^_, _<_}
+use Prim.Native.Nat.{ℕ, _+_, _^_, _<_, _≤_}
 use mathlib.Core.Path.{_≡_, refl, sym, ap, ap₂, subst, _∙_}
 use mathlib.Core.List.{List, [], _∷_, _++_, append-assoc}
 use mathlib.Core.Bool.{Bool, true, false, cond, _&&_}
 use native.Mathlib.Nat.{add-zero, zero-add}
 use native.Mathlib.Omega.{arith}
 use lib.ListN.{length, getD, drop, length-append}
-use lib.Dec.{eqb}
-use borrow.Author.Tests.{eqb-true}
-use Rattle.rules.specs.Limits.{byteValues, itemBytes}
+use lib.Dec.{eqb, leb}
+use borrow.Author.Tests.{eqb-true, leb-true}
+use Rattle.rules.specs.Limits.{byteValues, itemBytes, replyBytesMin}
 use Rattle.rules.specs.Payload.{Bytes, numberAt, bytesOf}
 use Rattle.rules.specs.Layouts.{Field, Layout, layouts, layoutOf, find, values, pack}
 use Rattle.rules.specs.Messages.{station, Item, Message, itemInt, idOf, valuesOf, encode, itemOf}
@@ -27,24 +27,29 @@ FitFields [] (v ∷ vs) = ⊥
 FitFields (f ∷ fs) [] = ⊥
 FitFields (f ∷ fs) (v ∷ vs) = (v < byteValues ^ f .size) × FitFields fs vs
 
--- every row of the table follows on to its full length, so every id's does
-allFollow : List Layout → Bool
-allFollow [] = true
-allFollow (l ∷ ls) = follow 0 (l .full) (l .fields) && allFollow ls
+-- what holds of every row of the table, and of an id without one, holds of every id's
+every : (Layout → Bool) → List Layout → Bool
+every p [] = true
+every p (l ∷ ls) = p l && every p ls
 
-find-follows : (ls : List Layout) (id : ℕ) → allFollow ls ≡ true → follow 0 (find ls id .full) (find ls id .fields) ≡ true
-unfolding allFollow
-find-follows [] id e = refl
-find-follows (l ∷ ls) id e = go (eqb (l .id) id) (find-follows ls id (both (follow 0 (l .full) (l .fields)) (allFollow ls) e .1))
+find-every : (p : Layout → Bool) (ls : List Layout) (id : ℕ) → p (find [] id) ≡ true → every p ls ≡ true → p (find ls id) ≡ true
+unfolding every
+find-every p [] id none e = none
+find-every p (l ∷ ls) id none e = go (eqb (l .id) id) (find-every p ls id none (both (p l) (every p ls) e .1))
   where
-    go : (t : Bool) → follow 0 (find ls id .full) (find ls id .fields) ≡ true → follow 0 (cond t l (find ls id) .full) (cond t l (find ls id) .fields) ≡ true
-    go true ih = both (follow 0 (l .full) (l .fields)) (allFollow ls) e .0
+    go : (t : Bool) → p (find ls id) ≡ true → p (cond t l (find ls id)) ≡ true
+    go true ih = both (p l) (every p ls) e .0
     go false ih = ih
 
 -- every row's fields follow one another from 0 to its full length
 pub layouts-follow : (id : ℕ) → follow 0 (layoutOf id .full) (layoutOf id .fields) ≡ true
-unfolding layoutOf allFollow
-layouts-follow id = find-follows layouts id refl
+unfolding layoutOf every
+layouts-follow id = find-every (λ (l : Layout). follow 0 (l .full) (l .fields)) layouts id refl refl
+
+-- every message fits a reply buffer
+pub layouts-fit : (id : ℕ) → layoutOf id .full ≤ replyBytesMin
+unfolding layoutOf every
+layouts-fit id = leb-true _ _ (find-every (λ (l : Layout). leb (l .full) replyBytesMin) layouts id refl refl)
 
 -- values packed behind a front part are read back
 pub values-pack :
@@ -86,6 +91,9 @@ length-pack at full (f ∷ fs) vs e =
 pub length-encode : (m : Message) → length (encode m) ≡ layoutOf (idOf m) .full
 unfolding encode
 length-encode m = sym (zero-add (length (pack (layoutOf (idOf m) .fields) (valuesOf m)))) ∙ length-pack 0 (layoutOf (idOf m) .full) (layoutOf (idOf m) .fields) (valuesOf m) (layouts-follow (idOf m))
+
+pub encode-fits : (m : Message) → length (encode m) ≤ replyBytesMin
+encode-fits m = omega (arith, length-encode m, layouts-fit (idOf m))
 
 pub length-itemOf : (item : Item) → length (itemOf item) ≡ itemBytes
 unfolding itemOf layoutOf

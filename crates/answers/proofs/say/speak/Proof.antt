@@ -1,8 +1,9 @@
 -- By what is said: each way's message is the rules' answer, and it is written.
-use Prim.Native.Nat.{ℕ}
+use Prim.Native.Nat.{ℕ, _≤_}
 use mathlib.Core.Path.{_≡_}
 use borrow.Author.Needs.{needs}
-use Rattle.rules.specs.Limits.{replied}
+use lib.ListN.{length}
+use Rattle.rules.specs.Limits.{replied, replyBytesMin}
 use Rattle.rules.specs.Payload.{Bytes}
 use Rattle.rules.specs.Messages.{station, ack, requestInt, encode}
 use Rattle.rules.specs.Layouts.{requestIntId}
@@ -21,9 +22,9 @@ module _ (say : Say) (system component kind : ℕ) (b b′ : Bytes) where
       → Spoken (says (ack (station system component) result kind number)) b b′ r → Spoken (answerOf say (station system component) kind) b b′ r
   acked result number r e a = rw e a
 
-  asked : (seq n : ℕ) → say ≡ Ask seq → Written (encode (requestInt (station system component) seq kind)) b b′ n
+  asked : (seq n : ℕ) → replyBytesMin ≤ length b → say ≡ Ask seq → Written (encode (requestInt (station system component) seq kind)) b b′ n
       → Spoken (answerOf say (station system component) kind) b b′ (said replied requestIntId n)
-  asked seq n e w = rw e (written-spoken (requestInt (station system component) seq kind) b b′ n w)
+  asked seq n enough e w = rw e (written-spoken (requestInt (station system component) seq kind) b b′ n enough w)
 
 enum-told : tie.Need-enum-told
 enum-told c = search needs

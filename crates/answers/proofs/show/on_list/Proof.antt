@@ -1,8 +1,9 @@
 -- COUNT is written with the plan's length and the number shown.
-use Prim.Native.Nat.{ℕ}
+use Prim.Native.Nat.{ℕ, _≤_}
 use mathlib.Core.Path.{_≡_, sym}
 use borrow.Author.Needs.{needs}
-use Rattle.rules.specs.Limits.{replied}
+use lib.ListN.{length}
+use Rattle.rules.specs.Limits.{replied, replyBytesMin}
 use Rattle.rules.specs.Payload.{Bytes}
 use Rattle.rules.specs.Messages.{station, count, encode}
 use Rattle.rules.specs.Layouts.{countId}
@@ -14,12 +15,12 @@ use Rattle.answers.specs.Answered.{AnsweredBy, served, written-answered}
 use Rattle.answers.proofs.show.on_list.Statement.{statement}
 use Rattle.answers.proofs.show.on_list.Tie as tie
 
-listed : (st : State) (system component kind number : ℕ) (b b′ : Bytes) (n : ℕ) → number ≡ numberShown (planOf st kind)
+listed : (st : State) (system component kind number : ℕ) (b b′ : Bytes) (n : ℕ) → replyBytesMin ≤ length b → number ≡ numberShown (planOf st kind)
     → Written (encode (count (station system component) (planOf st kind .len) kind number)) b b′ n
     → (store : Bytes) → AnsweredBy (listDone st store (station system component) kind) b b′ (served st replied countId n)
 unfolding listDone
-listed st system component kind number b b′ n e w store =
-    rw (sym e) (written-answered st (count (station system component) (planOf st kind .len) kind number) b b′ n w)
+listed st system component kind number b b′ n enough e w store =
+    rw (sym e) (written-answered (count (station system component) (planOf st kind .len) kind number) b b′ n enough w st)
 
 mul-plan : tie.Need-mul-plan
 mul-plan c = search needs

@@ -3,10 +3,11 @@ use Prim.Native.Nat.{ℕ, _≤_, _<_}
 use mathlib.Core.Path.{_≡_, sym}
 use mathlib.Core.Bool.{true, cond, _&&_}
 use native.Mathlib.Omega.{arith}
+use lib.ListN.{length}
 use lib.Dec.{eqb}
 use borrow.Author.Needs.{needs}
 use borrow.Author.Tests.{lt-ltb, le-ltb}
-use Rattle.rules.specs.Limits.{flight, rally, sizeOf, replied, invalidSequence}
+use Rattle.rules.specs.Limits.{flight, rally, sizeOf, replyBytesMin, replied, invalidSequence}
 use Rattle.rules.specs.Payload.{Bytes}
 use Rattle.rules.specs.Messages.{station, ack, itemInt, encode, itemIn}
 use Rattle.rules.specs.Layouts.{itemIntId}
@@ -29,14 +30,14 @@ within : (st : State) (kind seq : ℕ) → stateRanged st ≡ true → kind ≤ 
 within st kind seq ranged known below = omega (arith, plan-ranges st kind ranged known .len)
 
 module _ (st : State) (store : Bytes) (system component kind seq : ℕ) (b b′ : Bytes) where
-  shown : (field : ℕ) (patterns : Patterns) (n : ℕ) → seq < planOf st kind .len
+  shown : (field : ℕ) (patterns : Patterns) (n : ℕ) → replyBytesMin ≤ length b → seq < planOf st kind .len
       → patternsItem patterns ≡ itemIn (itemAt store (planOf st kind .half) kind seq)
       → field ≡ cond (eqb kind flight && eqb seq (st .current)) 1 0
       → Written (encode (itemInt (station system component) field (patternsItem patterns))) b b′ n
       → AnsweredBy (requestDone st store (station system component) kind seq) b b′ (served st replied itemIntId n)
   unfolding requestDone
-  shown field patterns n below fetched current w =
-      rw (lt-ltb _ _ below, sym fetched, sym current) (written-answered st (itemInt (station system component) field (patternsItem patterns)) b b′ n w)
+  shown field patterns n enough below fetched current w =
+      rw (lt-ltb _ _ below, sym fetched, sym current) (written-answered (itemInt (station system component) field (patternsItem patterns)) b b′ n enough w st)
 
   past : (s : Said) → planOf st kind .len ≤ seq → Spoken (says (ack (station system component) invalidSequence kind 0)) b b′ s
       → AnsweredBy (requestDone st store (station system component) kind seq) b b′ (served st (s .outcome) (s .id) (s .len))

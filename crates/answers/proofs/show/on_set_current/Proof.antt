@@ -1,9 +1,10 @@
 -- Below the flight length CURRENT is written, with the numbers shown, and the item chosen; else the text that there is none.
 use Prim.Native.Nat.{ℕ, _≤_, _<_}
 use mathlib.Core.Path.{_≡_, sym}
+use lib.ListN.{length}
 use borrow.Author.Needs.{needs}
 use borrow.Author.Tests.{lt-ltb, le-ltb}
-use Rattle.rules.specs.Limits.{flight, fence, rally, replied}
+use Rattle.rules.specs.Limits.{flight, fence, rally, replyBytesMin, replied}
 use Rattle.rules.specs.Payload.{Bytes}
 use Rattle.rules.specs.Messages.{current, encode}
 use Rattle.rules.specs.Layouts.{currentId, statustextId}
@@ -18,7 +19,7 @@ use Rattle.answers.specs.Answered.{AnsweredBy, served, written-answered}
 use Rattle.answers.proofs.show.on_set_current.Statement.{statement}
 use Rattle.answers.proofs.show.on_set_current.Tie as tie
 
-module _ (st : State) (seq : ℕ) (b b′ : Bytes) (n : ℕ) where
+module _ (st : State) (seq : ℕ) (b b′ : Bytes) (n : ℕ) (enough : replyBytesMin ≤ length b) where
   chosen-now : (chosen : State) (mission fences rallies : ℕ) → seq < planOf st flight .len → chosen ≡ chosenState st seq
       → mission ≡ numberShown (planOf st flight) → fences ≡ numberShown (planOf st fence) → rallies ≡ numberShown (planOf st rally)
       → Written (encode (current seq (planOf st flight .len) 0 0 mission fences rallies)) b b′ n
@@ -26,13 +27,13 @@ module _ (st : State) (seq : ℕ) (b b′ : Bytes) (n : ℕ) where
   unfolding chooseDone
   chosen-now chosen mission fences rallies below chose em ef er w store =
       rw (lt-ltb _ _ below, sym chose, sym em, sym ef, sym er)
-      (written-answered chosen (current seq (planOf st flight .len) 0 0 mission fences rallies) b b′ n w)
+      (written-answered (current seq (planOf st flight .len) 0 0 mission fences rallies) b b′ n enough w chosen)
 
   not-there : (text : Statustext) → planOf st flight .len ≤ seq → statustextMessage text ≡ refusalText
       → Written (encode (statustextMessage text)) b b′ n
       → (store : Bytes) → AnsweredBy (chooseDone st store seq) b b′ (served st replied statustextId n)
   unfolding chooseDone
-  not-there text above says w store = rw (le-ltb _ _ above, sym says) (written-answered st (statustextMessage text) b b′ n w)
+  not-there text above says w store = rw (le-ltb _ _ above, sym says) (written-answered (statustextMessage text) b b′ n enough w st)
 
 element-copy-out-flight : tie.Need-element-copy-out-flight
 element-copy-out-flight c = search needs

@@ -17,7 +17,7 @@ write-trimmed-requires : tie.Need-write-trimmed-requires
 unfolding layoutOf
 write-trimmed-requires c κs =
     let a = c .before .before .before .before .args in
-    ready (ackMessage (a .m)) (c .before .before .ack-bytes .result) (now (a .out)) tt tt (c .before .before .ack-bytes .ensures) (c .before .before .before .before .pre)
+    ready (ackMessage (a .m)) (c .before .before .ack-bytes .result) tt (c .before .before .ack-bytes .ensures)
 
 same-length : tie.Need-same-length
 same-length c = search needs

@@ -17,7 +17,7 @@ write-trimmed-requires : tie.Need-write-trimmed-requires
 unfolding layoutOf
 write-trimmed-requires c κs =
     let a = c .before .before .before .before .args in
-    ready (requestIntMessage (a .m)) (c .before .before .request-int-bytes .result) (now (a .out)) tt tt (c .before .before .request-int-bytes .ensures) (c .before .before .before .before .pre)
+    ready (requestIntMessage (a .m)) (c .before .before .request-int-bytes .result) tt (c .before .before .request-int-bytes .ensures)
 
 same-length : tie.Need-same-length
 same-length c = search needs
