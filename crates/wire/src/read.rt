@@ -17,7 +17,6 @@ use crate::structs::SetCurrent;
 use crate::table::ACK_ID;
 use crate::table::CLEAR_ALL_ID;
 use crate::table::COUNT_ID;
-use crate::table::CURRENT_ID;
 use crate::table::ITEM_INT_ID;
 use crate::table::REQUEST_INT_ID;
 use crate::table::REQUEST_LIST_ID;
