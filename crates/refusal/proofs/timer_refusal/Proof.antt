@@ -29,11 +29,11 @@ room-refusal-requires c κs = search needs
 returns : tie.Need-returns
 returns c clock = search (earlier, needs)
 
-returns-2 : tie.Need-returns-2
-returns-2 c clock = search (no-kind, needs)
-
 returns-3 : tie.Need-returns-3
 returns-3 c clock = search (passes, needs)
+
+returns-2 : tie.Need-returns-2
+returns-2 c clock = search (no-kind, needs)
 
 pub timer-refusal-spec : {M : Type 1} → statement M
 timer-refusal-spec = tie.close (tie.spec room-refusal-requires returns returns-2 returns-3)

@@ -44,15 +44,15 @@ module _ (x : Float) (z : ℤ) (l : le lowest x ≡ true) (h : lt x bound ≡ tr
       ∙ ap (λ (k : ℤ). cond (eq (ofInt binary64 k) x) (Integer k) NotWhole) (same ∙ cut)
       ∙ reading x l h
 
-truncating-f32-to-i64-requires : tie.Need-truncating-f32-to-i64-requires
-unfolding ofBits neg
-truncating-f32-to-i64-requires c κs = cut-defined (c .before .before .args .x) (c .before .if1 .taken) (c .if2 .taken)
-
 cast-n : tie.Need-cast-n
 unfolding ofBits neg
 cast-n c =
     fits (c .before .before .before .args .x) (c .truncating-f32-to-i64 .result) (c .before .before .if1 .taken) (c .before .if2 .taken)
     (c .truncating-f32-to-i64 .ensures)
+
+truncating-f32-to-i64-requires : tie.Need-truncating-f32-to-i64-requires
+unfolding ofBits neg
+truncating-f32-to-i64-requires c κs = cut-defined (c .before .before .args .x) (c .before .if1 .taken) (c .if2 .taken)
 
 int-to-float-if3 : tie.Need-int-to-float-if3
 int-to-float-if3 c = search needs

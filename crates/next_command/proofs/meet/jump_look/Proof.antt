@@ -48,6 +48,12 @@ returns c =
 cast-if2 : tie.Need-cast-if2
 cast-if2 c = search needs
 
+returns-3 : tie.Need-returns-3
+returns-3 c =
+    let a = c .before .before .before .before .before .args in
+    let r = c .before .before .before .repeat .given in
+    chosen-is (a .repeat) (r .0 .0) (r .1) (search needs) (a .target) (a .j) (a .runs) (search needs) false false (c .before .if1 .left) (c .if2 .left)
+
 returns-2 : tie.Need-returns-2
 returns-2 c =
     let a = c .before .before .before .before .before .args in
@@ -56,12 +62,6 @@ returns-2 c =
 
 enum-told : tie.Need-enum-told
 enum-told c = search needs
-
-returns-3 : tie.Need-returns-3
-returns-3 c =
-    let a = c .before .before .before .before .before .args in
-    let r = c .before .before .before .repeat .given in
-    chosen-is (a .repeat) (r .0 .0) (r .1) (search needs) (a .target) (a .j) (a .runs) (search needs) false false (c .before .if1 .left) (c .if2 .left)
 
 returns-4 : tie.Need-returns-4
 unfolding jumpAs

@@ -95,6 +95,9 @@ fetch-requires c κs = search needs
 verdict-requires : tie.Need-verdict-requires
 verdict-requires c κs = values-of (c .fetch .ensures)
 
+array-read-runs : tie.Need-array-read-runs
+array-read-runs c = search (room, needs)
+
 returns : tie.Need-returns
 returns c = search (breaks, needs)
 
@@ -109,9 +112,6 @@ returns-2 c = search (stands, needs)
 
 mul-runs : tie.Need-mul-runs
 mul-runs c = search needs
-
-array-read-runs : tie.Need-array-read-runs
-array-read-runs c = search (room, needs)
 
 repeat-of-requires : tie.Need-repeat-of-requires
 repeat-of-requires c κs = values-of (c .before .before .before .before .fetch .ensures)

@@ -28,13 +28,6 @@ sub-if1 c = search needs
 shared-slice-read-if1 : tie.Need-shared-slice-read-if1 Inv-loop μ-loop
 shared-slice-read-if1 c = search needs
 
-returns : tie.Need-returns Inv-loop μ-loop
-returns c =
-    let at-loop = c .before .before .before in
-    let n = at-loop .loop .n in
-    let bytes = now (at-loop .before .args .bytes) in
-    trimmed-other bytes n (at-loop .loop .inv .0) (at-loop .loop .inv .1) (at-loop .loop .inv .2) (c .if1 .taken)
-
 sub-n : tie.Need-sub-n Inv-loop μ-loop
 sub-n c = search needs
 
@@ -50,6 +43,13 @@ loop-again c =
       omega arith,
       sym (last-zero bytes n (at-loop .loop .inv .0) (at-loop .loop .inv .1) (c .if1 .left)) ∙ at-loop .loop .inv .2,
     )
+
+returns : tie.Need-returns Inv-loop μ-loop
+returns c =
+    let at-loop = c .before .before .before in
+    let n = at-loop .loop .n in
+    let bytes = now (at-loop .before .args .bytes) in
+    trimmed-other bytes n (at-loop .loop .inv .0) (at-loop .loop .inv .1) (at-loop .loop .inv .2) (c .if1 .taken)
 
 returns-2 : tie.Need-returns-2 Inv-loop μ-loop
 returns-2 c =

@@ -46,6 +46,9 @@ with-upload-requires c κs = search needs
 keeps-requires-2 : tie.Need-keeps-requires-2
 keeps-requires-2 c κs = search needs
 
+returns-3 : tie.Need-returns-3
+returns-3 c = search (stops, needs)
+
 returns-2 : tie.Need-returns-2
 returns-2 c = search (asks, needs)
 
@@ -54,9 +57,6 @@ ended-requires c κs = search needs
 
 keeps-requires-3 : tie.Need-keeps-requires-3
 keeps-requires-3 c κs = search needs
-
-returns-3 : tie.Need-returns-3
-returns-3 c = search (stops, needs)
 
 pub on-expiry-spec : {M : Type 1} → statement M
 on-expiry-spec =
