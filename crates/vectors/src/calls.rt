@@ -31,7 +31,7 @@ pub fn usual() -> Host {
 }
 
 // How long a front part is: as asked, or all where there is less.
-fn front(n: usize, bytes: &[u8]) -> usize
+pub fn front(n: usize, bytes: &[u8]) -> usize
     ensures { λ r. ⌜ Counts r (now (bytes .entry)) ⌝ }
 {
     if n < bytes.len() {

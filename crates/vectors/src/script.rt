@@ -3,9 +3,11 @@
 // t KIND > OUTCOME ID HEX                                          a timer call
 // i KIND FIRST LAST COMMAND FRAME PARAM1 PARAM2 X Y Z > the same   items; what the last one gets
 // u KIND COUNT COMMAND FRAME PARAM1 PARAM2 X Y Z > RESULT          a whole upload from a fresh start; its last item's result
-// d > OUTCOME CASE ITEM                                            "command done": 0 Fly to 5 Servo, 6 Finished, 7 Stuck
+// d > OUTCOME CASE ITEM VALUE PULSE COUNT COUNT                    "command done": 0 Fly to 5 Servo, 6 Finished, 7 Stuck; a value is a bit
+//                                                                  pattern, or a servo's channel; the first two jump counts after it
 // Ops that set what later lines use: f (a fresh start), o (own numbers), s (the sender's), c (the clock), l (how much of store and
-// reply buffer is lent), p (the current item, as a host might write it). A line that begins with # says what the next ones are about.
+// reply buffer is lent), p (the current item, as a host might write it), w (bytes in hex from an offset of the store on, as a host
+// might write them). Numbers left out at the end are 0. A line that begins with # says what the next ones are about.
 use crate::calls;
 use crate::calls::Host;
 use crate::items;
@@ -17,7 +19,6 @@ use crate::text::next_bytes;
 use crate::text::next_number;
 use crate::text::seven_numbers;
 use answers::Served;
-use next_command::Command;
 use plan::State;
 
 struct World {
@@ -82,10 +83,10 @@ fn message(
 ) -> Served {
     let id = next_number(text, at);
     let mut payload = [0u8; 64];
-    let bytes = next_bytes(text, id.at, &mut payload);
+    let len = next_bytes(text, id.at, &mut payload);
     let host = w.host;
     let state = w.state;
-    calls::message(host, state, store, reply, id.value, &payload, bytes.count)
+    calls::message(host, state, store, reply, id.value, &payload, len)
 }
 
 fn timer(text: &[u8], at: usize, w: World, store: &[u8; 26752], reply: &mut [u8; 64]) -> Served {
@@ -127,37 +128,15 @@ fn uploaded(text: &[u8], at: usize, store: &mut [u8; 26752], reply: &mut [u8; 64
     items::upload(host, service::fresh(), store, reply, f, count.value)
 }
 
-// A command's case and item.
-struct Told {
-    case: u32,
-    item: u16,
-}
-
-fn answer(case: u32, item: u16) -> Told {
-    Told { case, item }
-}
-
-fn tell(command: Command) -> Told {
-    match command {
-        Command::Fly(n) => answer(0, n),
-        Command::Wait(n, x) => answer(1, n),
-        Command::Near(n, x) => answer(2, n),
-        Command::Turn(n, x) => answer(3, n),
-        Command::Speed(n, x) => answer(4, n),
-        Command::Servo(n, channel, pulse) => answer(5, n),
-        Command::Finished => answer(6, 0),
-        Command::Stuck => answer(7, 0),
-    }
-}
-
 fn done(text: &[u8], wanted: usize, w: World, store: &[u8; 26752]) -> State {
     let s = w.state;
     let host = w.host;
     let advanced = calls::done(host, s, store);
     let command = advanced.command;
-    let t = tell(command);
-    report::command_is(text, wanted, advanced.outcome as u32, t.case, t.item as u32);
-    advanced.state
+    let state = advanced.state;
+    let counts = state.counts;
+    report::command_is(text, wanted, advanced.outcome as u32, command, counts);
+    state
 }
 
 // A line that makes a call: its name is written already, and wanted is where its WANTED begins. The state after it.
@@ -205,6 +184,13 @@ fn set(op: u8, text: &[u8], at: usize, w: World) -> World {
     World { state, host }
 }
 
+// Bytes written into the store from an offset on.
+fn poke(text: &[u8], at: usize, store: &mut [u8]) {
+    let offset = next_number(text, at);
+    let from = calls::front(offset.value as usize, store);
+    next_bytes(text, offset.at, &mut store[from..]);
+}
+
 fn line(text: &[u8], at: usize, w: World, store: &mut [u8; 26752]) -> World {
     if byte_at(text, at) == b'#' {
         return w;
@@ -218,6 +204,9 @@ fn line(text: &[u8], at: usize, w: World, store: &mut [u8; 26752]) -> World {
         let state = play(op, text, args, wanted, w, store);
         let host = w.host;
         return World { state, host };
+    }
+    if op == b'w' {
+        poke(text, args, store);
     }
     set(op, text, args, w)
 }

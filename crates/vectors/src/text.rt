@@ -4,11 +4,6 @@ pub struct Number {
     pub at: usize,
 }
 
-pub struct Bytes {
-    pub count: usize,
-    pub at: usize,
-}
-
 // What is read of a number so far, and whether its text goes on.
 struct Reading {
     value: u32,
@@ -106,11 +101,11 @@ pub fn next_number(text: &[u8], from: usize) -> Number {
     Number { value, at }
 }
 
-// The bytes in hex that stand next, 64 at most; other text is no byte.
-pub fn next_bytes(text: &[u8], from: usize, to: &mut [u8; 64]) -> Bytes {
+// The bytes in hex that stand next, as many as there is room for; other text is no byte. How many there are.
+pub fn next_bytes(text: &[u8], from: usize, to: &mut [u8]) -> usize {
     let mut at = past_space(text, from);
     let mut count: usize = 0;
-    while count < 64 {
+    while count < to.len() {
         let high = digit_of(byte_at(text, at));
         let low = digit_of(byte_at(text, std::num::wrapping_add_usize(at, 1)));
         if (15 < high) | (15 < low) {
@@ -120,7 +115,7 @@ pub fn next_bytes(text: &[u8], from: usize, to: &mut [u8; 64]) -> Bytes {
         count += 1;
         at = std::num::wrapping_add_usize(at, 2);
     }
-    Bytes { count, at }
+    count
 }
 
 // The seven numbers that stand next, 0 for those that are left out at the end of the args.
