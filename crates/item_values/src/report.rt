@@ -1,4 +1,4 @@
-// A case's line on standard output: its numbers, and 'ok' or what differed.
+// A case's line on standard output: its pattern, and 'ok' or what differed.
 
 pub fn write(text: &[u8]) {
     io::write_all(1, text);
@@ -17,20 +17,6 @@ fn digit(d: u8) -> u8 {
 // A number below 256, in three digits.
 fn write_byte(n: u8) {
     let digits = [digit(n / 100), digit(n / 10 % 10), digit(n % 10)];
-    write(&digits);
-}
-
-// A number below 65536, in five digits.
-pub fn write_number(n: u16) {
-    let thousands = (n / 1000 % 10) as u8;
-    let hundreds = (n / 100 % 10) as u8;
-    let digits = [
-        digit((n / 10000) as u8),
-        digit(thousands),
-        digit(hundreds),
-        digit((n / 10 % 10) as u8),
-        digit((n % 10) as u8),
-    ];
     write(&digits);
 }
 
