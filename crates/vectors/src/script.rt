@@ -3,11 +3,11 @@
 // t KIND > OUTCOME ID HEX                                          a timer call
 // i KIND FIRST LAST COMMAND FRAME PARAM1 PARAM2 X Y Z > the same   items; what the last one gets
 // u KIND COUNT COMMAND FRAME PARAM1 PARAM2 X Y Z > RESULT          a whole upload from a fresh start; its last item's result
-// d > OUTCOME CASE ITEM VALUE PULSE COUNT COUNT                    "command done": 0 Fly to 5 Servo, 6 Finished, 7 Stuck; a value is a bit
-//                                                                  pattern, or a servo's channel; the first two jump counts after it
+// d > OUTCOME CASE ITEM VALUE PULSE COUNT COUNT                    "command done"; the counts are those of the first two jumps after it
+// A case is 0 Fly to 5 Servo, 6 Finished, 7 Stuck; its value is a bit pattern, or a servo's channel. Numbers left out at the end are 0.
 // Ops that set what later lines use: f (a fresh start), o (own numbers), s (the sender's), c (the clock), l (how much of store and
-// reply buffer is lent), p (the current item, as a host might write it), w (bytes in hex from an offset of the store on, as a host
-// might write them). Numbers left out at the end are 0. A line that begins with # says what the next ones are about.
+// reply buffer is lent), and as a host might write them p (the current item) and w (OFFSET HEX: bytes of the store). A line that
+// begins with # says what the next ones are about.
 use crate::calls;
 use crate::calls::Host;
 use crate::items;
@@ -184,7 +184,7 @@ fn set(op: u8, text: &[u8], at: usize, w: World) -> World {
     World { state, host }
 }
 
-// Bytes written into the store from an offset on.
+// Bytes go into the store from an offset on, as many as fit.
 fn poke(text: &[u8], at: usize, store: &mut [u8]) {
     let offset = next_number(text, at);
     let from = calls::front(offset.value as usize, store);
