@@ -17,6 +17,9 @@ use Rattle.rules.specs.Fence as rules
 use Rattle.values.specs.Wholes.{number31}
 use Rattle.fence.specs.declared.Reading.{Reading}
 
+abbrev pub brokenReading : Reading
+brokenReading = record { broken = true; left = 0; command = 0; vertices = 0 }
+
 -- the reading that a record stands for
 unfoldable pub readingOf : Reading → rules.Reading
 readingOf r = cond (r .broken) broken (runWith (r .left) (r .command) (r .vertices))

@@ -5,7 +5,7 @@ ghost use lib.ListN.{length};
 ghost use Rattle.rules.specs.Limits.{fence, sizeOf, storeBytes};
 ghost use Rattle.rules.specs.Fence.{fenceOk};
 ghost use Rattle.plan.specs.Places.{itemsIn};
-ghost use Rattle.fence.specs.FenceReading.{readingOf, readAs};
+ghost use Rattle.fence.specs.FenceReading.{brokenReading, readingOf, readAs};
 use plan::FENCE;
 use plan::items::command_at;
 use plan::items::param1_at;
@@ -31,6 +31,17 @@ struct Reading {
     vertices: u32,
 }
 
+fn broken() -> Reading
+    ensures { λ r. ⌜ r ≡ brokenReading ⌝ }
+{
+    Reading {
+        broken: true,
+        left: 0,
+        command: 0,
+        vertices: 0,
+    }
+}
+
 // Reading one more item.
 fn read_item(reading: Reading, command: u16, vertices: u32) -> Reading
     ensures { λ r. ⌜ readingOf r ≡ readAs (readingOf reading) command vertices ⌝ }
@@ -44,12 +55,7 @@ fn read_item(reading: Reading, command: u16, vertices: u32) -> Reading
             return reading;
         }
         if vertices == 0 {
-            return Reading {
-                broken: true,
-                left: 0,
-                command: 0,
-                vertices: 0,
-            };
+            return broken();
         }
         return Reading {
             broken: false,
@@ -66,12 +72,7 @@ fn read_item(reading: Reading, command: u16, vertices: u32) -> Reading
             vertices: reading.vertices,
         };
     }
-    Reading {
-        broken: true,
-        left: 0,
-        command: 0,
-        vertices: 0,
-    }
+    broken()
 }
 
 // Whether the first n fence items of a half keep the rule.

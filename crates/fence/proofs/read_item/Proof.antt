@@ -8,15 +8,12 @@ use lib.Dec.{eqb}
 use Rattle.rules.specs.Items.{inclusionVertex, exclusionVertex}
 use Rattle.rules.specs.Fence.{runWith}
 use Rattle.fence.specs.declared.Reading.{Reading}
-use Rattle.fence.specs.FenceReading.{readingOf, readAs}
+use Rattle.fence.specs.FenceReading.{brokenReading, readingOf, readAs}
 use Rattle.fence.proofs.read_item.Statement.{statement}
 use Rattle.fence.proofs.read_item.Tie as tie
 
 abbrev vertex : ℕ → Bool
 vertex command = eqb command inclusionVertex || eqb command exclusionVertex
-
-abbrev brokenReading : Reading
-brokenReading = record { broken = true; left = 0; command = 0; vertices = 0 }
 
 module _ (r : Reading) (command m : ℕ) where
   stays : r .broken ≡ true → readingOf r ≡ readAs (readingOf r) command m
@@ -27,9 +24,10 @@ module _ (r : Reading) (command m : ℕ) where
   unfolding readingOf readAs runWith
   passes-over eb el ev = simp (eb, eq-eqb _ _ el, not-true (vertex command) ev)
 
-  breaks : r .broken ≡ false → r .left ≡ 0 → not (vertex command) ≡ false → m ≡ 0 → readingOf brokenReading ≡ readAs (readingOf r) command m
+  breaks : (b : Reading) → r .broken ≡ false → r .left ≡ 0 → not (vertex command) ≡ false → m ≡ 0 → b ≡ brokenReading
+      → readingOf b ≡ readAs (readingOf r) command m
   unfolding readingOf readAs runWith
-  breaks eb el ev em = simp (eb, eq-eqb _ _ el, not-false (vertex command) ev, eq-eqb _ _ em)
+  breaks b eb el ev em is = simp (is, eb, eq-eqb _ _ el, not-false (vertex command) ev, eq-eqb _ _ em)
 
   opens : r .broken ≡ false → r .left ≡ 0 → not (vertex command) ≡ false → (m ≡ 0 → ⊥)
       → readingOf (record { broken = false; left = m - 1; command = command; vertices = m }) ≡ readAs (readingOf r) command m
@@ -41,16 +39,19 @@ module _ (r : Reading) (command m : ℕ) where
   unfolding readingOf readAs runWith
   goes-on eb el ev = simp (eb, ne-eqb _ _ el, ev)
 
-  stops : r .broken ≡ false → (r .left ≡ 0 → ⊥) → (vertex command && eqb command (r .command) && eqb m (r .vertices)) ≡ false
-      → readingOf brokenReading ≡ readAs (readingOf r) command m
+  stops : (b : Reading) → r .broken ≡ false → (r .left ≡ 0 → ⊥) → (vertex command && eqb command (r .command) && eqb m (r .vertices)) ≡ false
+      → b ≡ brokenReading → readingOf b ≡ readAs (readingOf r) command m
   unfolding readingOf readAs runWith
-  stops eb el ev = simp (eb, ne-eqb _ _ el, ev)
+  stops b eb el ev is = simp (is, eb, ne-eqb _ _ el, ev)
 
 returns : tie.Need-returns
 returns c = search (stays, needs)
 
 returns-2 : tie.Need-returns-2
 returns-2 c = search (passes-over, needs)
+
+broken-requires : tie.Need-broken-requires
+broken-requires c κs = search needs
 
 returns-3 : tie.Need-returns-3
 returns-3 c = search (breaks, needs)
@@ -67,9 +68,23 @@ sub-t11 c = search needs
 returns-5 : tie.Need-returns-5
 returns-5 c = search (goes-on, needs)
 
+broken-requires-2 : tie.Need-broken-requires-2
+broken-requires-2 c κs = search needs
+
 returns-6 : tie.Need-returns-6
 returns-6 c = search (stops, needs)
 
 pub read-item-spec : {M : Type 1} → statement M
 read-item-spec =
-    tie.close (tie.spec returns returns-2 returns-3 sub-t8 returns-4 sub-t11 returns-5 returns-6)
+    tie.close
+    (tie.spec
+    returns
+    returns-2
+    broken-requires
+    returns-3
+    sub-t8
+    returns-4
+    sub-t11
+    returns-5
+    broken-requires-2
+    returns-6)
