@@ -5,9 +5,6 @@ mod read;
 mod structs;
 mod table;
 
-pub use fields::byte_at;
-pub use fields::u16_at;
-pub use fields::u32_at;
 pub use read::patterns_at;
 pub use read::read_ack;
 pub use read::read_clear_all;
@@ -39,4 +36,3 @@ pub use table::STATUSTEXT_ID;
 pub use table::full_of;
 pub use table::head_of;
 pub use table::is_read;
-pub use table::own_part;
