@@ -1,4 +1,4 @@
-// Items in the store: storing one, fetching one, reading two of its fields, and counting jumps.
+// Items in the store: storing one, reading two of its fields, and counting jumps.
 ghost use mathlib.Core.Path.{_≡_};
 ghost use Prim.Native.Nat.{_+_, _≤_, _<_};
 ghost use lib.ListN.{length};
@@ -26,19 +26,6 @@ pub fn put_item(store: &mut [u8], at: usize, bytes: [u8; 38])
         store[at + i] = bytes[i];
         i += 1;
     }
-}
-
-pub fn item_at(store: &[u8], at: usize) -> [u8; 38]
-    requires { ⌜ at + itemBytes ≤ length (now store) ⌝ }
-    ensures { λ r. ⌜ r ≡ part (now (store .entry)) at itemBytes ⌝ }
-{
-    let mut bytes = [0u8; 38];
-    let mut i: usize = 0;
-    while i < ITEM_BYTES {
-        bytes[i] = store[at + i];
-        i += 1;
-    }
-    bytes
 }
 
 fn wide(byte: u8) -> u16
