@@ -99,9 +99,6 @@ module _ (pre : List Call) (c : Call) where
   in-it-by : (s : Stepped) → s ≡ act m (hears c) → letIn (s .answer) ≡ true → letIn (answerTo pre c) ≡ true
   in-it-by s e h = ap (λ (t : Stepped). letIn (t .answer)) (one-more pre c) ∙ sym (ap (λ (t : Stepped). letIn (t .answer)) e) ∙ h
 
-  unmoved : (s : Stepped) → s .model .shown ≡ shownBy pre → Way s
-  unmoved s e w = subst (Stroke pre c) (sym e) nothing
-
   module _ (o : Station) (now k : ℕ) where
     count-way : (n : ℕ) → hears c ≡ request o now k (announces n) → Way (onCount m o now k n)
     unfolding onCount

@@ -9,7 +9,7 @@ use lib.ListN.{length, getD}
 use Rattle.rules.specs.Payload.{Bytes, bytesOf}
 use Rattle.rules.specs.Layouts.{Field, chars, layoutOf, pack}
 use Rattle.rules.specs.Laws.Layout.{length-encode}
-use Rattle.rules.specs.Messages.{Message, setCurrent, current, requestList, count, clearAll, ack, requestInt, itemInt, statustext, unknown, idOf, encode}
+use Rattle.rules.specs.Messages.{Message, idOf, encode}
 use Rattle.reply.specs.Written.{Written}
 
 pub one-byte : (n : ℕ) → n < 256 → n ∷ [] ≡ bytesOf 1 n

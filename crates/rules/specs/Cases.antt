@@ -5,7 +5,7 @@ use Prim.Native.Nat.{ℕ}
 use mathlib.Core.Path.{_≡_}
 use mathlib.Core.List.{List, map}
 use lib.Ieee.{ofBits}
-use Rattle.rules.specs.Limits.{storeBytes, replyBytesMin, flight, fence, rally}
+use Rattle.rules.specs.Limits.{storeBytes, replyBytesMin, flight, fence}
 use Rattle.rules.specs.Payload.{Bytes, numberAt, bytesOf, significant, trim}
 use Rattle.rules.specs.Layouts.{setCurrentId, requestListId, countId, clearAllId, ackId, requestIntId, itemIntId, layoutOf, values, pack}
 use Rattle.rules.specs.Messages.{Station, station, Item, Message, setCurrent, requestList, count, clearAll, ack, requestInt, itemInt, encode, messageOf, decode, itemOf, itemIn}
@@ -147,6 +147,3 @@ vertex seq m = itemAs fence 5001 seq m 0 0
 
 abbrev pub circle : (seq : ℕ) → Item
 circle seq = itemAs fence 5003 seq f1 0 0
-
-abbrev pub rallyPoint : (seq : ℕ) → Item
-rallyPoint seq = itemAs rally 5100 seq 0 0 0

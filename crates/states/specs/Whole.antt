@@ -1,15 +1,15 @@
 -- The code's step over the whole state and the store, for everything that a message or timer call may say.
-use Prim.Native.Nat.{ℕ, _+_}
+use Prim.Native.Nat.{ℕ}
 use mathlib.Core.List.{List, [], _∷_}
-use mathlib.Core.Bool.{Bool, true, false, not, cond, _&&_, _||_}
-use lib.ListN.{getD, set}
+use mathlib.Core.Bool.{Bool, false, cond, _&&_, _||_}
+use lib.ListN.{set}
 use lib.Dec.{eqb, ltb}
-use Rattle.rules.specs.Limits.{flight, fence, rally, everyKind, kinds, sizeOf, accepted, unsupported, invalidSequence, denied}
+use Rattle.rules.specs.Limits.{flight, fence, rally, sizeOf, accepted, unsupported, invalidSequence, denied}
 use Rattle.rules.specs.Payload.{Bytes}
-use Rattle.rules.specs.Messages.{Station, Item, Message, current, count, ack, requestInt, itemInt, itemIn}
+use Rattle.rules.specs.Messages.{Station, Message, current, count, ack, requestInt, itemInt, itemIn}
 use Rattle.rules.specs.Model.{noCounts}
-use Rattle.rules.specs.Calls.{Request, chooses, asksList, announces, clears, acknowledges, asksItem, brings, Heard, refuses, request, expiry, commandDone}
-use Rattle.rules.specs.Step.{Answer, refused, silent, says, covered, kindOk, refusalText}
+use Rattle.rules.specs.Calls.{Request, chooses, asksList, announces, clears, acknowledges, asksItem, brings}
+use Rattle.rules.specs.Step.{Answer, silent, says, covered, kindOk, refusalText}
 use Rattle.plan.specs.declared.State.{State}
 use Rattle.plan.specs.declared.Plan.{Plan}
 use Rattle.plan.specs.Places.{itemAt}

@@ -1,13 +1,13 @@
 -- The f32 comparisons decide the tests of the rules, for every float: by cases on nan, an infinity and a number, whose
 -- magnitude m * up e is 0 exactly if m is.
-use Prim.Native.Nat.{ℕ, zero, suc, _+_, _*_, _^_, _≤_, _<_, zero-le}
+use Prim.Native.Nat.{ℕ, zero, suc, _+_, _*_, _≤_, _<_, zero-le}
 use mathlib.Core.Path.{_≡_, refl, sym, ap, _∙_, subst}
 use mathlib.Core.Bool.{Bool, true, false, not, _&&_, _||_, and-true, or-true, or-false}
 use native.Mathlib.Nat.{zero-mul, mul-one, mul-pos, mul-right-comm, zero-lt-suc}
 use native.Mathlib.Omega.{arith}
 use lib.IntN.{ℤ, pos}
 use lib.Dec.{eqb, ltb, leb, eqb·suc-zero}
-use lib.Ieee.{Float, nan, inf, fin, binary32, up, down, lt, le, eq, below, level}
+use lib.Ieee.{Float, nan, inf, fin, up, down, lt, le, eq, below, level}
 use lib.Ieee.Fits.{up-pos, down-pos}
 use lib.Ieee.Exact.{HasValue}
 use borrow.Author.Tests.{lt-ltb, le-leb, ne-eqb}

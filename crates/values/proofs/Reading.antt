@@ -2,20 +2,19 @@
 -- is left of it without its fraction. Within 32 bits q is exact at binary64, so it equals the number there exactly if p % d is 0.
 use Prim.Native.Nat.{ℕ, zero, suc, _+_, _-_, _*_, _/_, _%_, _^_, _≤_, _<_, min}
 use mathlib.Core.Path.{_≡_, refl, sym, ap, _∙_, subst}
-use mathlib.Core.Bool.{Bool, true, false, not, cond, _&&_, _||_, Bool·beq, and-true, false≢true}
-use native.Mathlib.Nat.{mul-one, mul-right-comm, mul-lt-mul-of-pos-right, lt-of-mul-lt-mul-right, eq-of-mul-eq-mul-right, div-lt-iff-lt-mul, le-div-iff-mul-le, div-add-mod', min-eq-left, le-trans, zero-mul, zero-lt-suc}
+use mathlib.Core.Bool.{Bool, true, false, cond, _&&_, _||_, Bool·beq, and-true, false≢true}
+use native.Mathlib.Nat.{mul-one, mul-right-comm, lt-of-mul-lt-mul-right, div-lt-iff-lt-mul, le-div-iff-mul-le, div-add-mod', min-eq-left, le-trans, zero-mul, zero-lt-suc}
 use native.Mathlib.Omega.{arith}
 use lib.IntN.{ℤ, pos, negsuc, negℤ}
 use lib.Signed.{mag}
 use lib.Dec.{T, eqb, ltb, leb}
-use lib.Ieee.{Float, nan, inf, fin, binary64, up, down, lt, le, eq, below, level, ofInt, toSigned}
+use lib.Ieee.{Float, nan, inf, fin, binary64, up, down, lt, le, eq, ofInt, toSigned}
 use lib.Ieee.Fits.{down-pos}
 use lib.Ieee.Exact.{HasValue}
 use lib.Ieee.Back.{round-whole}
-use borrow.Author.Tests.{lt-ltb, le-ltb, le-leb, lt-leb, eq-eqb, ne-eqb, ltb-true, ltb-false, leb-true, leb-false, eqb-true, eqb-false}
+use borrow.Author.Tests.{lt-ltb, le-ltb, eq-eqb, ne-eqb, ltb-true, ltb-false, leb-true, leb-false, eqb-true, eqb-false}
 use Rattle.rules.specs.Limits.{halfClock}
 use Rattle.rules.specs.Values.{wholeOf, integer, notWhole}
-use Rattle.values.specs.declared.Whole.{Whole}
 use Rattle.values.specs.declared.Whole.the-variants.{Integer, NotWhole}
 use Rattle.values.specs.Wholes.{whole32}
 use Rattle.rules.specs.Laws.Tests.{eqb-sym}

@@ -1,6 +1,6 @@
 -- The tests on i32 numbers, by cases on the sign, and what follows of a float from its reading as a whole number of 32 bits: where there is one it is the
 -- rules' own, and where there is none, the rules' is none either or lies beyond every i32.
-use Prim.Native.Nat.{ℕ, zero, suc, _≤_, _<_, zero-le}
+use Prim.Native.Nat.{ℕ, suc, _≤_, _<_, zero-le}
 use mathlib.Core.Path.{_≡_, refl, sym, ap, _∙_, subst}
 use mathlib.Core.Bool.{Bool, true, false, not, cond, _&&_, _||_, or-false, and-false, false≢true}
 use native.Mathlib.Omega.{arith}
@@ -10,7 +10,7 @@ use lib.Dec.{T, eqb, ltb, leb, leb·zero, leb·suc-suc}
 use mir.Syntax.{w32}
 use mir.Val.{Fits, SFits, toZ, ofZ}
 use mir.ValLaws.{toZ-ofZ, toZ-pos}
-use borrow.Author.Tests.{lt-ltb, le-ltb, le-leb, lt-leb, ltb-true, ltb-false, leb-true, leb-false}
+use borrow.Author.Tests.{lt-ltb, le-ltb, le-leb, lt-leb, ltb-true, ltb-false}
 use Rattle.rules.specs.Limits.{halfClock}
 use Rattle.rules.specs.Values as rules
 use Rattle.rules.specs.Values.{wholeFrom, wholeNumber, within, integer, notWhole}

@@ -1,7 +1,6 @@
 -- The whole numbers that the code reads: those of 32 signed bits.
 use Prim.Native.Nat.{ℕ}
 use mathlib.Core.Bool.{cond}
-use lib.IntN.{ℤ}
 use lib.Signed.{mag}
 use lib.Dec.{ltb}
 use Rattle.rules.specs.Limits.{halfClock}

@@ -19,7 +19,7 @@ use Rattle.plan.specs.View.{emptyPlan, planOf}
 use Rattle.upload.specs.declared.Say.the-variants.{Silent}
 use Rattle.upload.specs.declared.Turned.{Turned}
 use Rattle.upload.specs.Turns.{ended, keeps, ownUpload, ackTurned}
-use Rattle.states.specs.Whole.{gives, turnedState, turns, knownDone}
+use Rattle.states.specs.Whole.{gives, turnedState, knownDone}
 use Rattle.answers.specs.Answered.{AnsweredBy, served}
 use Rattle.messages.proofs.on_ack.Statement.{statement}
 use Rattle.messages.proofs.on_ack.Tie as tie

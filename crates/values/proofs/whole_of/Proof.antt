@@ -15,7 +15,6 @@ use borrow.Author.Needs.{needs, sfits-of}
 use Rattle.rules.specs.Values.{wholeOf}
 use Rattle.values.specs.Wholes.{whole32}
 use Rattle.values.proofs.Reading.{lowest, bound, reading, cut-fits, cut-defined, too-large, too-small}
-use Rattle.values.specs.declared.Whole.{Whole}
 use Rattle.values.specs.declared.Whole.the-variants.{Integer, NotWhole}
 use Rattle.values.proofs.whole_of.Statement.{statement}
 use Rattle.values.proofs.whole_of.Tie as tie

@@ -3,7 +3,6 @@ use mathlib.Core.Path.{sym}
 use native.Mathlib.Omega.{arith}
 use lib.Seq.{length-take-le}
 use denote.Ref.{now}
-use borrow.Author.Needs.{needs}
 use Rattle.wire_lengths.proofs.front.Statement.{statement}
 use Rattle.wire_lengths.proofs.front.Tie as tie
 

@@ -1,7 +1,6 @@
 -- The comparisons are the rule's, with their sides exchanged and grouped from the left.
-use Prim.Native.Nat.{ℕ}
-use mathlib.Core.Path.{_≡_, refl, _∙_}
-use mathlib.Core.Bool.{Bool, true, false, not, _&&_, _||_, or-false}
+use mathlib.Core.Path.{_≡_, refl}
+use mathlib.Core.Bool.{Bool, true, false, not, _&&_, _||_}
 use lib.Dec.{eqb}
 use Rattle.rules.specs.Items.{frameOk}
 use Rattle.rules.specs.Laws.Tests.{eqb-sym}

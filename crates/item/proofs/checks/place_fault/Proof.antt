@@ -1,6 +1,6 @@
 -- The tests in the rule's order. x, y and z are their patterns' values, by what the function requires; an i32 is read back from its bits.
 use Prim.Native.Nat.{ℕ, suc, _-_}
-use mathlib.Core.Path.{_≡_, refl, sym, ap, _∙_}
+use mathlib.Core.Path.{_≡_, ap, _∙_}
 use mathlib.Core.Bool.{Bool, true, false, not, _||_}
 use lib.IntN.{ℤ, pos, negsuc}
 use lib.Signed.{ltZ}

@@ -1,6 +1,6 @@
 -- The tests in the rule's order, each by what its function ensures; a param is its pattern's value, by what the function requires.
 use Prim.Native.Nat.{ℕ}
-use mathlib.Core.Path.{_≡_, sym, ap, _∙_}
+use mathlib.Core.Path.{_≡_, ap, _∙_}
 use mathlib.Core.Bool.{Bool, true, false, not}
 use Rattle.rules.specs.Limits.{unsupportedFrame, invalidParam1, invalidParam2}
 use Rattle.rules.specs.Values.{float}

@@ -1,10 +1,10 @@
 -- At each command that the table names, the row is the one that looking it up finds, by computation. A range of two or three commands is taken
 -- apart into them. Any other command is none of the rows' commands.
 use Prim.Native.Nat.{ℕ, zero, suc, _+_, _≤_, _<_}
-use mathlib.Core.Path.{_≡_, refl, sym, ap, _∙_, subst}
+use mathlib.Core.Path.{_≡_, refl, sym, _∙_, subst}
 use mathlib.Core.Logic.{_⊎_, inl, inr, ⊎-elim}
 use mathlib.Core.List.{List, [], _∷_}
-use mathlib.Core.Bool.{Bool, true, false, cond, _&&_, _||_}
+use mathlib.Core.Bool.{Bool, true, false, _&&_, _||_}
 use native.Mathlib.Nat.{eq-or-lt-of-le}
 use native.Mathlib.Omega.{arith}
 use lib.Dec.{T, eqb, ltb, leb}
@@ -14,7 +14,6 @@ use borrow.Author.Tests.{ne-eqb, ltb-true, leb-true, eqb-true}
 use Rattle.rules.specs.Items.{Row, commands, among as anyOf}
 use Rattle.item.specs.Table.{lookup, lookedUp, noRow}
 use Rattle.item.specs.declared.table.Listing.{Listing}
-use Rattle.item.specs.declared.table.Listing.the-variants.{NotListed}
 use Rattle.item.proofs.table.row_of.Statement.{statement}
 use Rattle.item.proofs.table.row_of.Tie as tie
 
