@@ -12,24 +12,13 @@ use Rattle.rules.specs.Payload.{Bytes}
 use Rattle.rules.specs.Messages.{Station, ack}
 use Rattle.rules.specs.Model.{Model, fresh, inRange, put, empty}
 use Rattle.rules.specs.NextCommand.{Command}
-use Rattle.rules.specs.Calls.{Call, message, timer, done, announces, request, heard}
+use Rattle.rules.specs.Calls.{Call, message, timer, done, storeLent, bufferLent, announces, request, heard}
 use Rattle.rules.specs.Step.{Answer, refused, says, outcomeOf, replyId, replyBytes, commandIn, isRefused, Stepped, act, step, run, answers}
 use Rattle.refine.specs.Promise.{Result, Serves}
 use Rattle.call_lists.specs.Uploads.{shownBy, answerTo, hears, letIn, Open, Completes, Empties, Stroke}
 use Rattle.call_lists.specs.Rules.{never-out-of-range, only-strokes, takes-effect, empties-effect, lets-in, denies}
 use Rattle.call_lists.specs.Laws.Ranged.{Formed, fresh-formed, formed-ranged}
 use Rattle.call_lists.specs.Laws.Kept.{step-kept}
-
--- how much of the store, and how long a reply buffer, a call is lent
-abbrev pub storeLent : Call → ℕ
-storeLent (message own from id payload clock store reply) = store
-storeLent (timer kind clock store reply) = store
-storeLent (done store) = store
-
-abbrev pub bufferLent : Call → ℕ
-bufferLent (message own from id payload clock store reply) = reply
-bufferLent (timer kind clock store reply) = reply
-bufferLent (done store) = 0
 
 -- what a call returns beside the state
 pub record Numbers : Type 0 where

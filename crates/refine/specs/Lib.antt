@@ -5,4 +5,5 @@ pub mod Items
 pub mod Messages
 pub mod Promise
 pub mod Steps
+pub mod Serving
 pub mod Front

@@ -1,16 +1,24 @@
--- The promise of every call, `Serves`, over any type of states and what they show.
-use Prim.Native.Nat.{ℕ, _≤_}
+-- The promise of every call, `Serves`, over any type of states and what they show; and what the service's own state says of halves and spare bytes.
+use Prim.Native.Nat.{ℕ, _+_, _≤_}
 use mathlib.Core.Path.{_≡_}
 use mathlib.Core.List.{_++_}
-use mathlib.Core.Bool.{Bool, true, false, not, cond}
-use lib.ListN.{length, getD, drop}
-use lib.Dec.{eqb}
-use Rattle.rules.specs.Limits.{rally}
+use mathlib.Core.Bool.{Bool, true, false, not, cond, _&&_}
+use lib.ListN.{length, getD, take, drop}
+use lib.Dec.{eqb, leb, ltb}
+use Rattle.rules.specs.Limits.{rally, itemBytes}
 use Rattle.rules.specs.Payload.{Bytes}
-use Rattle.rules.specs.Model.{Model, planOf}
+use Rattle.rules.specs.Messages.{Station, station, sameStation}
+use Rattle.rules.specs.Model as model
+use Rattle.rules.specs.Model.{Model}
 use Rattle.rules.specs.NextCommand.{Command}
-use Rattle.rules.specs.Calls.{Call}
-use Rattle.rules.specs.Step.{isRefused, outcomeOf, replyId, replyBytes, commandIn, step}
+use Rattle.rules.specs.Calls.{Call, chooses, asksList, announces, clears, acknowledges, asksItem, brings, Heard, refuses, request, expiry, commandDone, isKnown, heard}
+use Rattle.rules.specs.Step.{isRefused, outcomeOf, replyId, replyBytes, commandIn, ReadsBack, step}
+use Rattle.plan.specs.declared.State.{State}
+use Rattle.plan.specs.declared.Plan.{Plan}
+use Rattle.plan.specs.declared.Upload.{Upload}
+use Rattle.plan.specs.declared.Upload.the-variants.{Idle, Running}
+use Rattle.plan.specs.Places.{offsetOf}
+use Rattle.plan.specs.View.{planOf}
 
 -- what a call returns: the new state, the outcome, the reply's id and length, and the command of a "command done" call (Stuck for any other call)
 pub record Result (State : Type 0) : Type 0 where
@@ -22,7 +30,7 @@ pub record Result (State : Type 0) : Type 0 where
 
 -- the plan number that is kept
 abbrev pub numberOf : Model → (kind : ℕ) → ℕ
-numberOf m kind = planOf (m .shown) kind .number
+numberOf m kind = model.planOf (m .shown) kind .number
 
 -- `view` is what a state and a store show, `half` says in which half of the store a kind's plan stands, and `spare` which bytes of the store a call
 -- may change though nothing shows them.
@@ -36,6 +44,8 @@ module _ (State : Type 0) (view : State → Bytes → Model) (half : State → �
     pub command : r .command ≡ commandIn (step (view st s) c .answer)
     -- the reply's bytes, then the old buffer past them
     pub buffer : b′ ≡ replyBytes (step (view st s) c .answer) ++ drop (length (replyBytes (step (view st s) c .answer))) b
+    -- "What we write reads back as what was meant": where the answer is a message, the reply is read as that message
+    pub reads : ReadsBack (step (view st s) c .answer) (r .id) (take (r .len) b′)
     -- what is shown after the call is the rules' model
     pub model : view (r .state) s′ ≡ step (view st s) c .model
     -- "a replacement switches to it, emptying doesn't": a kind's half turns over exactly where its plan number moved
@@ -47,3 +57,38 @@ module _ (State : Type 0) (view : State → Bytes → Model) (half : State → �
     -- no byte of the store changes beside the spare ones
     pub beside : (i : ℕ) → spare st c i ≡ false → getD s′ i 0 ≡ getD s i 0
     pub long : length s′ ≡ length s
+
+-- ---- the service's own state
+
+-- in which half of the store a kind's plan stands: true, the second
+abbrev pub halfOf : State → ℕ → Bool
+halfOf st kind = planOf st kind .half
+
+-- byte i of the store is one of an item place's
+abbrev pub inPlace : (half : Bool) (kind n i : ℕ) → Bool
+inPlace half kind n i = leb (offsetOf half kind n) i && ltb i (offsetOf half kind n + itemBytes)
+
+-- An item of a kind, with number seq and from a station, may change the bytes of one place: that of the item which the kind's upload expects next, in the
+-- half that the plan is not in; and only where the upload is the station's own and seq the number that it expects.
+unfoldable pub spareIn : Plan → (kind : ℕ) → Upload → Station → (seq i : ℕ) → Bool
+spareIn p kind Idle from seq i = false
+spareIn p kind (Running r) from seq i =
+    sameStation from (station (r .system) (r .component)) && eqb seq (r .next) && inPlace (not (p .half)) kind (r .next) i
+
+-- no other call changes any byte of the store
+unfoldable pub spareAt : State → Heard → ℕ → Bool
+spareAt st (request from now kind (brings item)) i = isKnown kind && spareIn (planOf st kind) kind (planOf st kind .upload) from (item .seq) i
+spareAt st (request from now kind (chooses seq)) i = false
+spareAt st (request from now kind asksList) i = false
+spareAt st (request from now kind (announces n)) i = false
+spareAt st (request from now kind clears) i = false
+spareAt st (request from now kind (acknowledges result)) i = false
+spareAt st (request from now kind (asksItem seq)) i = false
+spareAt st (refuses outcome) i = false
+spareAt st (expiry now kind) i = false
+spareAt st commandDone i = false
+
+-- The bytes that a call may change though nothing shows them. Which of them an item changes that is invalid, or the last of a fence that fails, is free;
+-- those of an item that is taken are shown.
+abbrev pub spare : State → Call → ℕ → Bool
+spare st c i = spareAt st (heard true c) i

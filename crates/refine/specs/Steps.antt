@@ -1,4 +1,4 @@
--- What the code's step keeps of the promise: the model, the answer, halves, and every byte beside the next place of an upload.
+-- What the code's step keeps of the promise: the model, the answer, halves, and every byte beside the spare ones.
 use Prim.Native.Nat.{ℕ, _+_, _≤_, _<_}
 use native.Mathlib.Omega.{arith}
 use mathlib.Core.Path.{_≡_, refl, sym, ap, ap₂, subst, _∙_}
@@ -7,7 +7,7 @@ use mathlib.Core.List.{List, [], _∷_}
 use mathlib.Core.Bool.{Bool, true, false, true≢false, not, cond, _&&_}
 use lib.ListN.{length, getD, length-set}
 use lib.Dec.{eqb, leb, ltb}
-use borrow.Author.Tests.{leb-true, le-leb, eq-eqb, ne-eqb, eqb-true, ltb-false, leb-false}
+use borrow.Author.Tests.{leb-true, le-leb, eq-eqb, ne-eqb, eqb-true, ltb-false, leb-false, not-false}
 use Rattle.rules.specs.Limits.{flight, rally, kinds, sizeOf, itemBytes, storeBytes, accepted, maxRepeats, expiryMs, lastNumber}
 use Rattle.rules.specs.Payload.{Bytes}
 use Rattle.rules.specs.Messages.{Station, Item, itemOf}
@@ -38,11 +38,7 @@ use Rattle.refine.specs.Views.{plan-shown}
 use Rattle.refine.specs.Turned.{Agree, timer-agrees}
 use Rattle.refine.specs.Items.{next-below}
 use Rattle.refine.specs.Messages.{unknown-state, message-agrees}
-use Rattle.refine.specs.Promise.{numberOf}
-
--- in which half a kind's plan stands
-abbrev pub halfOf : State → ℕ → Bool
-halfOf st k = planOf st k .half
+use Rattle.refine.specs.Promise.{numberOf, halfOf, inPlace, spareIn, spareAt, spare}
 
 -- ---- halves
 
@@ -146,29 +142,7 @@ cleared-still st three (k ∷ ks) known =
 still-halves : (st st′ : State) → Still st st′ → HalvesOk st st′
 still-halves st st′ h j known = stays-ok (planOf st j) (planOf st′ j) (h .half j) (h .number j)
 
--- ---- the store beside the next place of an upload
-
--- "except the 38 bytes of the expected item's place in its kind's other half": byte i is one of them
-unfoldable pub spareIn : Plan → (kind : ℕ) → Upload → ℕ → Bool
-spareIn p kind Idle i = false
-spareIn p kind (Running r) i = leb (offsetOf (not (p .half)) kind (r .next)) i && ltb i (offsetOf (not (p .half)) kind (r .next) + itemBytes)
-
--- "and these only for an item message"
-unfoldable pub spareAt : State → Heard → ℕ → Bool
-spareAt st (request from now kind (brings item)) i = isKnown kind && spareIn (planOf st kind) kind (planOf st kind .upload) i
-spareAt st (request from now kind (chooses seq)) i = false
-spareAt st (request from now kind asksList) i = false
-spareAt st (request from now kind (announces n)) i = false
-spareAt st (request from now kind clears) i = false
-spareAt st (request from now kind (acknowledges result)) i = false
-spareAt st (request from now kind (asksItem seq)) i = false
-spareAt st (refuses outcome) i = false
-spareAt st (expiry now kind) i = false
-spareAt st commandDone i = false
-
--- the bytes that a call may change though nothing shows them
-abbrev pub spare : State → Call → ℕ → Bool
-spare st c i = spareAt st (heard true c) i
+-- ---- the store beside the spare bytes
 
 record Beside (s : Bytes) (free : ℕ → Bool) (s′ : Bytes) : Type 0 where
   bytes : (i : ℕ) → free i ≡ false → getD s′ i 0 ≡ getD s i 0
@@ -188,8 +162,7 @@ outside at i e = go (leb at i) (ltb i (at + itemBytes)) refl refl
 
 module _ (st : State) (s : Bytes) (long : storeBytes ≤ length s) (ranged : inRange (view st s) ≡ true) (k : ℕ) (known : isKnown k ≡ true) where
   -- a write at the upload's next place
-  written : (r : Run) (item : Item) → planOf st k .upload ≡ Running r → Beside s (spareIn (planOf st k) k (Running r)) (stored s k (planOf st k) r item)
-  unfolding spareIn
+  written : (r : Run) (item : Item) → planOf st k .upload ≡ Running r → Beside s (inPlace (not (planOf st k .half)) k (r .next)) (stored s k (planOf st k) r item)
   written r item runs =
       let half = not (planOf st k .half) in
       let at = offsetOf half k (r .next) in
@@ -204,19 +177,33 @@ module _ (st : State) (s : Bytes) (long : storeBytes ≤ length s) (ranged : inR
         long = length-stays s long (itemOf item) whole half k (r .next) small below;
       }
 
-  item-beside : (u : Upload) → planOf st k .upload ≡ u → (from : Station) (now : ℕ) (item : Item) → Beside s (spareIn (planOf st k) k u) (itemTook s k u (planOf st k) from now item .store)
+  -- by the upload's own station, with the number expected
+  own-written :
+      (r : Run) (from : Station) (item : Item) → planOf st k .upload ≡ Running r → isFrom from r ≡ true → eqb (item .seq) (r .next) ≡ true
+      → Beside s (spareIn (planOf st k) k (Running r) from (item .seq)) (stored s k (planOf st k) r item)
+  unfolding spareIn
+  own-written r from item runs own turn =
+      let after = written r item runs in
+      record { bytes = λ i e. after .bytes i (rw (own, turn) at e); long = after .long }
+
+  item-beside :
+      (u : Upload) → planOf st k .upload ≡ u → (from : Station) (now : ℕ) (item : Item)
+      → Beside s (spareIn (planOf st k) k u from (item .seq)) (itemTook s k u (planOf st k) from now item .store)
   unfolding itemTook takesItem
-  item-beside Idle e from now item = beside-same s (spareIn (planOf st k) k Idle)
+  item-beside Idle e from now item = beside-same s (spareIn (planOf st k) k Idle from (item .seq))
   item-beside (Running r) e from now item =
-      let free = spareIn (planOf st k) k (Running r) in
+      let free = spareIn (planOf st k) k (Running r) from (item .seq) in
       let p = planOf st k in
       let s′ = stored s k p r item in
-      let after = written r item e in
-      either (λ (t : Took). Beside s free (t .store)) (not (isFrom from r)) (λ t. beside-same s free)
-      (λ t. either (λ (t : Took). Beside s free (t .store)) (not (eqb (item .seq) (r .next))) (λ t. beside-same s free)
-      (λ t. either (λ (t : Took). Beside s free (t .store)) (not (eqb (itemVerdict s k p r item) accepted)) (λ t. beside-same s free)
-      (λ t. either (λ (t : Took). Beside s free (t .store)) (not (eqb (r .next + 1) (r .count))) (λ t. after)
-      (λ t. either (λ (t : Took). Beside s free (t .store)) (wholeOk k (itemsIn s′ (not (p .half)) k (r .count))) (λ t. after) (λ t. after)))))
+      either Left (not (isFrom from r)) (λ t. beside-same s free)
+      (λ own. either Left (not (eqb (item .seq) (r .next))) (λ t. beside-same s free)
+      (λ turn. let after = own-written r from item e (not-false (isFrom from r) own) (not-false (eqb (item .seq) (r .next)) turn) in
+      either Left (not (eqb (itemVerdict s k p r item) accepted)) (λ t. beside-same s free)
+      (λ t. either Left (not (eqb (r .next + 1) (r .count))) (λ t. after)
+      (λ t. either Left (wholeOk k (itemsIn s′ (not (p .half)) k (r .count))) (λ t. after) (λ t. after)))))
+    where
+      Left : Took → Type 0
+      Left t = Beside s (spareIn (planOf st k) k (Running r) from (item .seq)) (t .store)
 
 -- ---- every message
 

@@ -14,6 +14,17 @@ pub data Call : Type 0 where
   timer : (kind clock store reply : ℕ) → Call
   done : (store : ℕ) → Call
 
+-- how much of the store, and how long a reply buffer, a call is lent
+abbrev pub storeLent : Call → ℕ
+storeLent (message own from id payload clock store reply) = store
+storeLent (timer kind clock store reply) = store
+storeLent (done store) = store
+
+abbrev pub bufferLent : Call → ℕ
+bufferLent (message own from id payload clock store reply) = reply
+bufferLent (timer kind clock store reply) = reply
+bufferLent (done store) = 0
+
 -- what a message that is read here says, beside its kind
 pub data Request : Type 0 where
   -- SET_CURRENT

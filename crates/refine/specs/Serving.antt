@@ -1,0 +1,184 @@
+-- From the code's step to the promise; and that every call that fits has a result that keeps it.
+use Prim.Native.Nat.{ℕ, _≤_}
+use mathlib.Core.Path.{_≡_, refl, sym, ap, ap₂, subst, _∙_}
+use mathlib.Core.List.{List, [], _∷_, _++_}
+use mathlib.Core.Bool.{true}
+use lib.ListN.{length, getD, take, drop, length-set}
+use lib.Seq.{take-at}
+use lib.Dec.{ltb}
+use Rattle.rules.specs.Limits.{flight, kinds, storeBytes}
+use Rattle.rules.specs.Payload.{Bytes}
+use Rattle.rules.specs.Messages.{Station}
+use Rattle.rules.specs.Model.{inRange}
+use Rattle.rules.specs.NextCommand.{Found, nowhere, found, next, reach, advance, answerOf}
+use Rattle.rules.specs.Calls.{Call, storeLent, Request, chooses, asksList, announces, clears, acknowledges, asksItem, brings, Heard, refuses, request, expiry, commandDone, heard}
+use Rattle.rules.specs.Step.{Answer, refused, orders, outcomeOf, replyId, replyBytes, commandIn, ReadsBack, covered, kindOk}
+use Rattle.rules.specs.Fitting.{ModelFits, CallFits}
+use Rattle.rules.specs.ReadBack.{replies-read}
+use Rattle.rules.specs.Laws.Tests.{either}
+use Rattle.rules.specs.Laws.Heard.{HeardFits, heard-fits}
+use Rattle.rules.specs.Laws.Refused.{Room, none, enough, room-or-refused}
+use Rattle.plan.specs.declared.State.{State}
+use Rattle.plan.specs.View.{planOf, view}
+use Rattle.upload.specs.declared.Say.the-variants.{Silent}
+use Rattle.upload.specs.declared.Turned.{Turned}
+use Rattle.upload.specs.Turns.{emptied, renews}
+use Rattle.states.specs.Whole.{Done, gives, turnedState, clearedState, othersAmong, clearDone, listDone, requestDone, chooseDone, knownDone, messageDone, timerDone}
+use Rattle.refine.specs.Promise.{Result, Serves, halfOf, spare}
+use Rattle.refine.specs.Steps.{Steps, refused-steps, message-steps, timer-steps, done-steps}
+
+-- a result that gives the step's state and answer
+pub record Gives (d : Done) (s′ b b′ : Bytes) (r : Result State) : Type 0 where
+  pub state : r .state ≡ d .state
+  pub store : s′ ≡ d .store
+  pub outcome : r .outcome ≡ outcomeOf (d .answer)
+  pub id : r .id ≡ replyId (d .answer)
+  pub len : r .len ≡ length (replyBytes (d .answer))
+  pub command : r .command ≡ commandIn (d .answer)
+  pub buffer : b′ ≡ replyBytes (d .answer) ++ drop (length (replyBytes (d .answer))) b
+  pub reads : ReadsBack (d .answer) (r .id) (take (r .len) b′)
+
+pub steps-serve :
+    (c : Call) (st : State) (s s′ b b′ : Bytes) (d : Done) (r : Result State) → Steps c st s d → Gives d s′ b b′ r
+    → Serves State view halfOf spare c st s s′ b b′ r
+steps-serve c st s s′ b b′ d r steps gives-it =
+    let said = steps .answer in
+    record {
+      outcome = gives-it .outcome ∙ ap outcomeOf said;
+      id = gives-it .id ∙ ap replyId said;
+      len = gives-it .len ∙ ap (λ (a : Answer). length (replyBytes a)) said;
+      command = gives-it .command ∙ ap commandIn said;
+      buffer = gives-it .buffer ∙ ap (λ (a : Answer). replyBytes a ++ drop (length (replyBytes a)) b) said;
+      reads = subst (λ (a : Answer). ReadsBack a (r .id) (take (r .len) b′)) said (gives-it .reads);
+      model = ap₂ view (gives-it .state) (gives-it .store) ∙ steps .model;
+      halves = λ k known. ap (λ (x : State). halfOf x k) (gives-it .state) ∙ steps .halves k known;
+      unchanged = λ e. (gives-it .state ∙ steps .unchanged e .0, gives-it .store ∙ steps .unchanged e .1);
+      beside = λ i e. ap (λ (l : Bytes). getD l i 0) (gives-it .store) ∙ steps .beside i e;
+      long = ap length (gives-it .store) ∙ steps .long;
+    }
+
+-- ---- every call has a result
+
+-- the state after "command done"
+reached : Found → State → State
+reached (nowhere c) st = st
+reached (found n counts c) st = record { plans = st .plans; current = n; begun = true; counts = counts }
+
+-- the code's step by what is heard
+doneBy : State → Bytes → Heard → Done
+doneBy st s (refuses outcome) = gives st s (refused outcome)
+doneBy st s (request from now k r) = messageDone st s from now k r
+doneBy st s (expiry now k) = timerDone st s now k
+doneBy st s commandDone = gives (reached (next (view st s .shown)) st) s (orders (answerOf (next (view st s .shown))))
+
+abbrev Three : State → Type 0
+Three st = length (st .plans) ≡ length kinds
+
+module _ (st : State) (three : Three st) where
+  turned-three : (k : ℕ) (t : Turned) → Three (turnedState st k t)
+  unfolding turnedState
+  turned-three k t = length-set (st .plans) k (t .plan) ∙ three
+
+  reached-three : (f : Found) → Three (reached f st)
+  unfolding reached
+  reached-three (nowhere c) = three
+  reached-three (found n counts c) = three
+
+cleared-three : (st : State) (ks : List ℕ) → Three st → Three (clearedState st ks)
+cleared-three st [] three = three
+cleared-three st (k ∷ ks) three =
+    let t = renews (emptied (planOf st k)) Silent in
+    cleared-three (turnedState st k t) ks (turned-three st three k t)
+
+known-three : (st : State) (s : Bytes) (from : Station) (now k : ℕ) (r : Request) → Three st → Three (knownDone st s from now k r .state)
+unfolding knownDone chooseDone listDone requestDone clearDone
+known-three st s from now k (chooses seq) three = either (λ (d : Done). Three (d .state)) (ltb seq (planOf st flight .len)) (λ t. three) (λ t. three)
+known-three st s from now k asksList three = three
+known-three st s from now k (announces n) three = turned-three st three k _
+known-three st s from now k clears three =
+    either (λ (d : Done). Three (d .state)) (othersAmong st from (covered k)) (λ t. three) (λ t. cleared-three st (covered k) three)
+known-three st s from now k (acknowledges result) three = turned-three st three k _
+known-three st s from now k (asksItem seq) three = either (λ (d : Done). Three (d .state)) (ltb seq (planOf st k .len)) (λ t. three) (λ t. three)
+known-three st s from now k (brings item) three = turned-three st three k _
+
+done-three : (st : State) (s : Bytes) (h : Heard) → Three st → Three (doneBy st s h .state)
+unfolding doneBy messageDone timerDone
+done-three st s (refuses outcome) three = three
+done-three st s (request from now k r) three = either (λ (d : Done). Three (d .state)) (kindOk k r) (λ t. known-three st s from now k r three) (λ t. three)
+done-three st s (expiry now k) three = turned-three st three k _
+done-three st s commandDone three = reached-three st three (next (view st s .shown))
+
+reached-view : (st : State) (s : Bytes) (f : Found) → view (reached f st) s ≡ record { shown = reach f (view st s .shown); uploads = view st s .uploads }
+unfolding reached reach view
+reached-view st s (nowhere c) = refl
+reached-view st s (found n counts c) = refl
+
+reached-plans : (st : State) (f : Found) → reached f st .plans ≡ st .plans
+unfolding reached
+reached-plans st (nowhere c) = refl
+reached-plans st (found n counts c) = refl
+
+-- the code's step keeps the promise, whatever is heard
+done-by-steps :
+    (c : Call) (st : State) (s : Bytes) → Three st → inRange (view st s) ≡ true → storeBytes ≤ length s → CallFits c → (h : Heard)
+    → heard (inRange (view st s)) c ≡ h → Steps c st s (doneBy st s h)
+unfolding doneBy advance
+done-by-steps c st s three ranged long call (refuses outcome) e = refused-steps c st s outcome e
+done-by-steps c st s three ranged long call (request from now k r) e = message-steps c st s three ranged long from now k r e
+done-by-steps c st s three ranged long call (expiry now k) e =
+    timer-steps c st s three ranged now k (subst HeardFits e (heard-fits (inRange (view st s)) c call) .0) e
+done-by-steps c st s three ranged long call commandDone e =
+    let f = next (view st s .shown) in
+    done-steps c st s three ranged (reached f st) (reached-view st s f) (reached-plans st f) e
+
+-- a result of a call, with the store and the buffer after it
+pub record Kept (c : Call) (st : State) (s b : Bytes) : Type 0 where
+  pub result : Result State
+  pub store : Bytes
+  pub buffer : Bytes
+  pub serves : Serves State view halfOf spare c st s store b buffer result
+  pub three : Three (result .state)
+
+-- what a step gives is a result; a refusal has no reply, and what is said reads back where the model and the call fit
+given :
+    (c : Call) (st : State) (s b : Bytes) (d : Done) → Three (d .state) → Steps c st s d → ReadsBack (d .answer) (replyId (d .answer)) (replyBytes (d .answer))
+    → Kept c st s b
+given c st s b d three steps reads =
+    let bytes = replyBytes (d .answer) in
+    let after = bytes ++ drop (length bytes) b in
+    let r : Result State = record { state = d .state; outcome = outcomeOf (d .answer); id = replyId (d .answer); len = length bytes; command = commandIn (d .answer) } in
+    record {
+      result = r;
+      store = d .store;
+      buffer = after;
+      serves =
+          steps-serve c st s (d .store) b after d r steps
+          (record {
+            state = refl;
+            store = refl;
+            outcome = refl;
+            id = refl;
+            len = refl;
+            command = refl;
+            buffer = refl;
+            reads = subst (λ (p : Bytes). ReadsBack (d .answer) (replyId (d .answer)) p) (sym (take-at bytes (drop (length bytes) b) (length bytes) refl)) reads;
+          });
+      three = three;
+    }
+
+-- Every call that fits, lent a store that shows a model that fits, has a result that keeps the promise.
+pub result-exists :
+    (c : Call) (st : State) (s b : Bytes) → Three st → length s ≡ storeLent c → CallFits c
+    → (inRange (view st s) ≡ true → storeBytes ≤ length s → ModelFits (view st s)) → Kept c st s b
+unfolding doneBy
+result-exists c st s b three lent call fits = go (room-or-refused (inRange (view st s)) c)
+  where
+    go : Room (inRange (view st s)) c → Kept c st s b
+    go (none outcome e) = given c st s b (gives st s (refused outcome)) three (refused-steps c st s outcome e) tt
+    go (enough ranged long) =
+        let h = heard (inRange (view st s)) c in
+        let room : storeBytes ≤ length s = subst (λ (n : ℕ). storeBytes ≤ n) (sym lent) long in
+        let d = doneBy st s h in
+        let steps = done-by-steps c st s three ranged room call h refl in
+        given c st s b d (done-three st s h three) steps
+        (subst (λ (a : Answer). ReadsBack a (replyId a) (replyBytes a)) (sym (steps .answer)) (replies-read (view st s) c (fits ranged room) call))
