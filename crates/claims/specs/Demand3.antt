@@ -3,7 +3,8 @@ use Prim.Native.Nat.{ℕ, _≤_}
 use mathlib.Core.Path.{_≡_, refl, sym, ap, ap₂, subst, _∙_}
 use mathlib.Core.List.{List, [], _∷_, _++_, map}
 use mathlib.Core.Bool.{Bool, true, false}
-use lib.ListN.{length}
+use lib.ListN.{length, take, drop}
+use lib.Seq.{take-at}
 use lib.Dec.{ltb}
 use borrow.Author.Tests.{ltb-false}
 use Rattle.rules.specs.Limits.{rally, storeBytes, sizeOf, outOfRange, shortStore}
@@ -13,48 +14,59 @@ use Rattle.rules.specs.Messages.{Station, ack}
 use Rattle.rules.specs.Model.{Model, fresh, inRange, put, empty}
 use Rattle.rules.specs.NextCommand.{Command}
 use Rattle.rules.specs.Calls.{Call, message, timer, done, storeLent, bufferLent, announces, request, heard}
-use Rattle.rules.specs.Step.{Answer, refused, says, outcomeOf, replyId, replyBytes, commandIn, isRefused, Stepped, act, step, run, answers}
+use Rattle.rules.specs.Step.{Answer, refused, says, outcomeOf, replyId, replyBytes, ReadsBack, commandIn, isRefused, Stepped, act, step, run, answers}
 use Rattle.refine.specs.Promise.{Result, Serves}
 use Rattle.call_lists.specs.Uploads.{shownBy, answerTo, hears, letIn, Open, Completes, Empties, Stroke}
 use Rattle.call_lists.specs.Rules.{never-out-of-range, only-strokes, takes-effect, empties-effect, lets-in, denies}
 use Rattle.call_lists.specs.Laws.Ranged.{Formed, fresh-formed, formed-ranged}
 use Rattle.call_lists.specs.Laws.Kept.{step-kept}
 
--- what a call returns beside the state
-pub record Numbers : Type 0 where
+-- what a call gives beside the state: its outcome, its reply's id, length and bytes, and the command
+pub record Got : Type 0 where
   pub outcome : ℕ
   pub id : ℕ
   pub len : ℕ
+  pub reply : Bytes
   pub command : Command
 
--- what the rules' answer says of it
-abbrev pub numbersOf : Answer → Numbers
-numbersOf a = record { outcome = outcomeOf a; id = replyId a; len = length (replyBytes a); command = commandIn a }
+-- what the rules' answer gives
+abbrev pub gotOf : Answer → Got
+gotOf a = record { outcome = outcomeOf a; id = replyId a; len = length (replyBytes a); reply = replyBytes a; command = commandIn a }
+
+-- each reply is read as the message that the rules' answer says, where it is one
+abbrev pub AllRead : List Got → List Answer → Type 0
+AllRead [] [] = Unit {0}
+AllRead [] (a ∷ rest) = ⊥
+AllRead (g ∷ gs) [] = ⊥
+AllRead (g ∷ gs) (a ∷ rest) = ReadsBack a (g .id) (g .reply) × AllRead gs rest
 
 module _ (State : Type 0) (freshState : State) (view : State → Bytes → Model) (half : State → ℕ → Bool) (spare : State → Call → ℕ → Bool) where
-  abbrev pub numbers : Result State → Numbers
-  numbers r = record { outcome = r .outcome; id = r .id; len = r .len; command = r .command }
+  -- what a call with this result gave, the reply's bytes being the first of the buffer after it
+  abbrev pub got : Result State → (buffer : Bytes) → Got
+  got r buffer = record { outcome = r .outcome; id = r .id; len = r .len; reply = take (r .len) buffer; command = r .command }
 
   pub record World : Type 0 where
     pub state : State
     pub store : Bytes
 
-  -- A list of calls with their results. Each call gets the state and the store as the last one left them, and nobody else writes them meanwhile; it is
+  -- A list of calls with what they gave. Each call gets the state and the store as the last one left them, and nobody else writes them meanwhile; it is
   -- lent a front part of the store, and a reply buffer of any content.
-  pub data Trace : World → List Call → List (Result State) → World → Type 0 where
+  pub data Trace : World → List Call → List Got → World → Type 0 where
     stop : (w : World) → Trace w [] [] w
     call :
-        (w : World) (c : Call) (lent lent′ rest b b′ : Bytes) (r : Result State) (cs : List Call) (rs : List (Result State)) (z : World)
+        (w : World) (c : Call) (lent lent′ rest b b′ : Bytes) (r : Result State) (cs : List Call) (gs : List Got) (z : World)
         → w .store ≡ lent ++ rest → length lent ≡ storeLent c → length b ≡ bufferLent c
         → Serves State view half spare c (w .state) lent lent′ b b′ r
-        → Trace (record { state = r .state; store = lent′ ++ rest }) cs rs z
-        → Trace w (c ∷ cs) (r ∷ rs) z
+        → Trace (record { state = r .state; store = lent′ ++ rest }) cs gs z
+        → Trace w (c ∷ cs) (got r b′ ∷ gs) z
 
-  pub record Demand3 (cs : List Call) (rs : List (Result State)) (w : World) : Type 0 where
+  pub record Demand3 (cs : List Call) (gs : List Got) (w : World) : Type 0 where
     -- "after the list the plans, plan numbers, current item, whether it is begun, and jump counts are exactly those of the book", the uploads too
     pub model : view (w .state) (w .store) ≡ run fresh cs
-    -- every answer is the rules'
-    pub answered : map numbers rs ≡ map numbersOf (answers fresh cs)
+    -- every answer is the rules', the bytes of its reply too
+    pub answered : gs ≡ map gotOf (answers fresh cs)
+    -- "What we write reads back as what was meant."
+    pub reads : AllRead gs (answers fresh cs)
     -- "15 can't come up"
     pub ranged : (pre post : List Call) (c : Call) → cs ≡ pre ++ (c ∷ post) → answerTo pre c ≡ refused outOfRange → ⊥
     -- "only completed uploads, allowed clears, accepted item choices and advances change these, each at one stroke"
@@ -77,8 +89,8 @@ module _ (State : Type 0) (freshState : State) (view : State → Bytes → Model
         → Open k o n pre got started repeats → (o′ ≡ o → ⊥) → hears c ≡ request o′ now k (announces n′) → answerTo pre c ≡ says (ack o′ Limits.denied k 0)
 
   -- demand 3
-  pub Demand : Type 0
-  Demand = (s : Bytes) (cs : List Call) (rs : List (Result State)) (w : World) → Trace (record { state = freshState; store = s }) cs rs w → Demand3 cs rs w
+  abbrev pub Demand : Type 0
+  Demand = (s : Bytes) (cs : List Call) (gs : List Got) (w : World) → Trace (record { state = freshState; store = s }) cs gs w → Demand3 cs gs w
 
   -- ---- what the proof asks of the view: a fresh state shows the fresh model, ranges are the state's own, and a call's part of the store is enough
 
@@ -89,13 +101,26 @@ module _ (State : Type 0) (freshState : State) (view : State → Bytes → Model
 
   module _ (shows : Shows) where
     -- one call from a formed model
-    record Stepping (m : Model) (c : Call) (st′ : State) (s′ : Bytes) (r : Result State) : Type 0 where
-      after : view st′ s′ ≡ step m c .model
-      said : numbers r ≡ numbersOf (step m c .answer)
+    pub record Stepping (m : Model) (c : Call) (st′ : State) (s′ : Bytes) (g : Got) : Type 0 where
+      pub after : view st′ s′ ≡ step m c .model
+      said : g ≡ gotOf (step m c .answer)
+      read : ReadsBack (step m c .answer) (g .id) (g .reply)
 
-    said-by : (m : Model) (c : Call) (st : State) (s s′ b b′ : Bytes) (r : Result State) → view st s ≡ m → Serves State view half spare c st s s′ b b′ r → numbers r ≡ numbersOf (step m c .answer)
-    said-by m c st s s′ b b′ r e serves =
-        (λ i. record { outcome = serves .outcome i; id = serves .id i; len = serves .len i; command = serves .command i }) ∙ ap (λ (x : Model). numbersOf (step x c .answer)) e
+    module _ (c : Call) (st : State) (s s′ b b′ : Bytes) (r : Result State) (serves : Serves State view half spare c st s s′ b b′ r) where
+      said-by : got r b′ ≡ gotOf (step (view st s) c .answer)
+      said-by =
+          let bytes = replyBytes (step (view st s) c .answer) in
+          let reply : take (r .len) b′ ≡ bytes = ap₂ take (serves .len) (serves .buffer) ∙ take-at bytes (drop (length bytes) b) (length bytes) refl in
+          λ i. record { outcome = serves .outcome i; id = serves .id i; len = serves .len i; reply = reply i; command = serves .command i }
+
+      -- what the promise says of the model shown, it says of a model that is shown
+      stepping : (m : Model) → view st s ≡ m → (st′ : State) (s″ : Bytes) → view st′ s″ ≡ step m c .model → Stepping m c st′ s″ (got r b′)
+      stepping m e st′ s″ after =
+          record {
+            after = after;
+            said = said-by ∙ ap (λ (x : Model). gotOf (step x c .answer)) e;
+            read = subst (λ (x : Model). ReadsBack (step x c .answer) (r .id) (take (r .len) b′)) e (serves .reads);
+          }
 
     -- a call lent too short a part is refused, whatever the model
     short : (m : Model) (c : Call) → ltb (storeLent c) storeBytes ≡ true → step m c ≡ record { model = m; answer = refused shortStore }
@@ -104,15 +129,15 @@ module _ (State : Type 0) (freshState : State) (view : State → Bytes → Model
     short m (timer kind clock store reply) e = rw e
     short m (done store) e = rw e
 
-    one :
+    pub one :
         (m : Model) (c : Call) (st : State) (lent lent′ rest b b′ : Bytes) (r : Result State) → Formed m → view st (lent ++ rest) ≡ m → length lent ≡ storeLent c
-        → Serves State view half spare c st lent lent′ b b′ r → Stepping m c (r .state) (lent′ ++ rest) r
+        → Serves State view half spare c st lent lent′ b b′ r → Stepping m c (r .state) (lent′ ++ rest) (got r b′)
     one m c st lent lent′ rest b b′ r f shown len serves = go (ltb (storeLent c) storeBytes) refl
       where
         ranged : inRange (view st lent) ≡ true
         ranged = shows .ranges st lent (lent ++ rest) ∙ ap inRange shown ∙ formed-ranged m f
 
-        go : (t : Bool) → ltb (storeLent c) storeBytes ≡ t → Stepping m c (r .state) (lent′ ++ rest) r
+        go : (t : Bool) → ltb (storeLent c) storeBytes ≡ t → Stepping m c (r .state) (lent′ ++ rest) (got r b′)
         go true t =
             let refusal : (x : Model) → step x c ≡ record { model = x; answer = refused shortStore } = λ x. short x c t in
             let same = serves .unchanged (ap (λ (x : Stepped). isRefused (x .answer)) (refusal (view st lent))) in
@@ -120,41 +145,42 @@ module _ (State : Type 0) (freshState : State) (view : State → Bytes → Model
               after =
                   ap₂ (λ (x : State) (l : Bytes). view x (l ++ rest)) (same .0) (same .1) ∙ shown ∙ sym (ap (λ (x : Stepped). x .model) (refusal m));
               said =
-                  said-by (view st lent) c st lent lent′ b b′ r refl serves
-                  ∙ ap (λ (x : Stepped). numbersOf (x .answer)) (refusal (view st lent)) ∙ sym (ap (λ (x : Stepped). numbersOf (x .answer)) (refusal m));
+                  said-by c st lent lent′ b b′ r serves
+                  ∙ ap (λ (x : Stepped). gotOf (x .answer)) (refusal (view st lent)) ∙ sym (ap (λ (x : Stepped). gotOf (x .answer)) (refusal m));
+              read = subst (λ (x : Stepped). ReadsBack (x .answer) (r .id) (take (r .len) b′)) (sym (refusal m)) tt;
             }
         go false t =
             let long : storeBytes ≤ length lent = subst (λ (n : ℕ). storeBytes ≤ n) (sym len) (ltb-false (storeLent c) storeBytes t) in
             let before : view st lent ≡ m = sym (shows .front st lent rest long ranged) ∙ shown in
             let now : view (r .state) lent′ ≡ step m c .model = serves .model ∙ ap (λ (x : Model). step x c .model) before in
             let kept : inRange (view (r .state) lent′) ≡ true = ap inRange now ∙ formed-ranged (step m c .model) (step-kept m c f) in
-            record {
-              after = shows .front (r .state) lent′ rest (subst (λ (n : ℕ). storeBytes ≤ n) (sym (serves .long)) long) kept ∙ now;
-              said = said-by m c st lent lent′ b b′ r before serves;
-            }
+            stepping c st lent lent′ b b′ r serves m before (r .state) (lent′ ++ rest)
+            (shows .front (r .state) lent′ rest (subst (λ (n : ℕ). storeBytes ≤ n) (sym (serves .long)) long) kept ∙ now)
 
-    record Ends (m : Model) (cs : List Call) (rs : List (Result State)) (w : World) : Type 0 where
+    record Ends (m : Model) (cs : List Call) (gs : List Got) (w : World) : Type 0 where
       model : view (w .state) (w .store) ≡ run m cs
-      answered : map numbers rs ≡ map numbersOf (answers m cs)
+      answered : gs ≡ map gotOf (answers m cs)
+      reads : AllRead gs (answers m cs)
 
-    ends : {cs : List Call} {rs : List (Result State)} {w z : World} (m : Model) → Formed m → view (w .state) (w .store) ≡ m → Trace w cs rs z → Ends m cs rs z
+    ends : {cs : List Call} {gs : List Got} {w z : World} (m : Model) → Formed m → view (w .state) (w .store) ≡ m → Trace w cs gs z → Ends m cs gs z
     unfolding run answers
-    ends m f shown (stop w) = record { model = shown; answered = refl }
-    ends m f shown (call w c lent lent′ rest b b′ r cs rs z store len buffer serves more) =
+    ends m f shown (stop w) = record { model = shown; answered = refl; reads = tt }
+    ends m f shown (call w c lent lent′ rest b b′ r cs gs z store len buffer serves more) =
         let first = one m c (w .state) lent lent′ rest b b′ r f (ap (view (w .state)) (sym store) ∙ shown) len serves in
         let later = ends (step m c .model) (step-kept m c f) (first .after) more in
         record {
           model = later .model;
-          answered = ap₂ {C = List Numbers} (λ (x : Numbers) (l : List Numbers). x ∷ l) (first .said) (later .answered);
+          answered = ap₂ {C = List Got} (λ (g : Got) (l : List Got). g ∷ l) (first .said) (later .answered);
+          reads = (first .read, later .reads);
         }
 
     pub demand3 : Demand
-    unfolding Demand
-    demand3 s cs rs w trace =
+    demand3 s cs gs w trace =
         let all = ends fresh fresh-formed (shows .starts s) trace in
         record {
           model = all .model;
           answered = all .answered;
+          reads = all .reads;
           ranged = λ pre post c e. never-out-of-range pre c;
           only = λ pre post c e. only-strokes pre c;
           takes = λ pre post c e. takes-effect pre c;

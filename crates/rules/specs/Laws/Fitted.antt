@@ -1,9 +1,9 @@
 -- The fresh model fits (numbers of 32 bits, stations of bytes, items of bytes), and a step with a call that fits keeps that.
 use Prim.Native.Nat.{ℕ, zero, suc, _+_, _<_}
 use native.Mathlib.Omega.{arith}
-use mathlib.Core.Path.{_≡_}
-use mathlib.Core.List.{List, [], _∷_}
-use mathlib.Core.Bool.{not, _&&_}
+use mathlib.Core.Path.{_≡_, subst}
+use mathlib.Core.List.{List, [], _∷_, _++_}
+use mathlib.Core.Bool.{true, not, _&&_}
 use lib.ListN.{getD, set}
 use lib.Dec.{eqb, ltb}
 use borrow.Author.Tests.{eqb-false}
@@ -20,7 +20,7 @@ use Rattle.rules.specs.Laws.Tests.{either}
 use Rattle.rules.specs.Laws.Lists.{each-set, each-append}
 use Rattle.rules.specs.Laws.Layout.{pack-bytes}
 use Rattle.rules.specs.Laws.Heard.{HeardFits, heard-fits}
-use Rattle.rules.specs.Fitting.{AllBytes, StationFits, PlanFits, RunFits, UploadFits, ModelFits, CallFits, CallsFit}
+use Rattle.rules.specs.Fitting.{Fits, AllBytes, StationFits, PlanFits, RunFits, UploadFits, ModelFits, CallFits, CallsFit}
 
 -- ---- what is stored
 
@@ -180,3 +180,15 @@ pub run-fits : (m : Model) (cs : List Call) → ModelFits m → CallsFit cs → 
 unfolding run
 run-fits m [] fits calls = fits
 run-fits m (c ∷ cs) fits calls = run-fits (step m c .model) cs (step-fits m c fits (calls .0)) (calls .1)
+
+-- ---- lists of calls
+
+-- a list and one more call
+pub calls-more : (cs : List Call) (c : Call) → CallsFit (cs ++ (c ∷ [])) → CallsFit cs × CallFits c
+calls-more [] c h = (tt, h .0)
+calls-more (x ∷ cs) c h = let rest = calls-more cs c (h .1) in ((h .0, rest .0), rest .1)
+
+-- the item that a call brings
+pub brought-fits :
+    (c : Call) (o : Station) (now kind : ℕ) (item : Item) → CallFits c → heard true c ≡ request o now kind (brings item) → Fits (itemInt (station 0 0) 0 item)
+brought-fits c o now kind item call sent = subst HeardFits sent (heard-fits true c call) .3

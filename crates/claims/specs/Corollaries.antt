@@ -1,0 +1,171 @@
+-- What demand 3 says of the service in plain terms: of the state and the store before and after, and of what the calls gave. Each follows from demand 3
+-- by what the rules alone say of lists of calls (`call_lists`).
+use Prim.Native.Nat.{ℕ, _<_}
+use mathlib.Core.Path.{_≡_, refl, sym, ap, subst, _∙_}
+use mathlib.Core.List.{List, [], _∷_, _++_, map, map-append}
+use lib.ListN.{length, getD}
+use lib.Seq.{getD-append-seam}
+use Rattle.rules.specs.Limits.{everyKind, denied}
+use Rattle.rules.specs.Payload.{Bytes}
+use Rattle.rules.specs.Messages.{Station, Item, Message, ack, requestInt, itemInt, decode}
+use Rattle.rules.specs.Model.{Model, fresh, planOf, uploadOf, put}
+use Rattle.rules.specs.Calls.{Call, Request, clears, asksItem, announces, brings, request, expiry, commandDone}
+use Rattle.rules.specs.Step.{Answer, says, ReadsBack, currentField, run, answers}
+use Rattle.rules.specs.Fitting.{CallsFit}
+use Rattle.call_lists.specs.Uploads.{hears, answerTo, Open, Completes}
+use Rattle.call_lists.specs.Corollaries as rule
+use Rattle.call_lists.specs.Corollaries.{Says, Spares, since, uploadedItems}
+use Rattle.call_lists.specs.Laws.Lists.{answers-snoc}
+use Rattle.claims.specs.Demand3.{Got, gotOf, AllRead, stop, call}
+use Rattle.claims.specs.Service.{World, start, shows, Trace, demand-3}
+
+-- ---- one more call
+
+append : {w v z : World} {cs ds : List Call} {gs hs : List Got} → Trace w cs gs v → Trace v ds hs z → Trace w (cs ++ ds) (gs ++ hs) z
+append (stop w) more = more
+append {z = z} {ds = ds} {hs = hs} (call w c lent lent′ rest b b′ r cs gs v store len buffer serves later) more =
+    call w c lent lent′ rest b b′ r (cs ++ ds) (gs ++ hs) z store len buffer serves (append later more)
+
+-- After the calls `pre` from a fresh start over a store, c is called: the worlds before and after it, and what it gave
+pub record Called (pre : List Call) (c : Call) (v : World) (g : Got) (w : World) : Type 0 where
+  pub store : Bytes
+  pub given : List Got
+  pub before : Trace (start store) pre given v
+  pub made : Trace v (c ∷ []) (g ∷ []) w
+
+last-same : {A : Type 0} (l : List A) (a b : A) → l ++ (a ∷ []) ≡ l ++ (b ∷ []) → a ≡ b
+last-same {A} l a b e = sym (getD-append-seam l a [] a) ∙ ap (λ (k : List A). getD k (length l) a) e ∙ getD-append-seam l b [] a
+
+last-read : (gs : List Got) (g : Got) (rest : List Answer) (a : Answer) → AllRead (gs ++ (g ∷ [])) (rest ++ (a ∷ [])) → ReadsBack a (g .id) (g .reply)
+last-read [] g [] a h = h .0
+last-read [] g (x ∷ []) a h = absurd (h .1)
+last-read [] g (x ∷ y ∷ rest) a h = absurd (h .1)
+last-read (f ∷ []) g [] a h = absurd (h .1)
+last-read (f ∷ e ∷ gs) g [] a h = absurd (h .1)
+last-read (f ∷ gs) g (x ∷ rest) a h = last-read gs g rest a (h .1)
+
+module _ {pre : List Call} {c : Call} {v w : World} {g : Got} (called : Called pre c v g w) where
+  all : Trace (start (called .store)) (pre ++ (c ∷ [])) (called .given ++ (g ∷ [])) w
+  all = append (called .before) (called .made)
+
+  before : shows v ≡ run fresh pre
+  before = demand-3 (called .store) pre (called .given) v (called .before) .model
+
+  after : shows w ≡ run fresh (pre ++ (c ∷ []))
+  after = demand-3 (called .store) (pre ++ (c ∷ [])) (called .given ++ (g ∷ [])) w all .model
+
+  gave : g ≡ gotOf (answerTo pre c)
+  gave =
+      let earlier = map gotOf (answers fresh pre) in
+      last-same earlier g (gotOf (answerTo pre c))
+      (ap (λ (l : List Got). l ++ (g ∷ [])) (sym (demand-3 (called .store) pre (called .given) v (called .before) .answered))
+      ∙ demand-3 (called .store) (pre ++ (c ∷ [])) (called .given ++ (g ∷ [])) w all .answered
+      ∙ ap (map gotOf) (answers-snoc fresh pre c)
+      ∙ map-append gotOf (answers fresh pre) (answerTo pre c ∷ []))
+
+  reads : ReadsBack (answerTo pre c) (g .id) (g .reply)
+  reads =
+      last-read (called .given) g (answers fresh pre) (answerTo pre c)
+      (subst (AllRead (called .given ++ (g ∷ []))) (answers-snoc fresh pre c)
+      (demand-3 (called .store) (pre ++ (c ∷ [])) (called .given ++ (g ∷ [])) w all .reads))
+
+-- ---- half an upload leaves the old plan whole
+
+-- While an upload is open, state and store show the plan of its kind that they showed before its COUNT, every byte of every item.
+pub old-plan-stands :
+    {s : Bytes} {pre post : List Call} {gs hs : List Got} {v w : World} → Trace (start s) pre gs v → Trace v post hs w
+    → {k : ℕ} {o : Station} {n : ℕ} {got : List Bytes} {started repeats : ℕ} (up : Open k o n (pre ++ post) got started repeats) → since up ≡ pre
+    → planOf (shows w .shown) k ≡ planOf (shows v .shown) k
+old-plan-stands {s} {pre} {post} {gs} {hs} {v} {w} first more {k} up announced =
+    ap (λ (m : Model). planOf (m .shown) k) (demand-3 s (pre ++ post) (gs ++ hs) w (append first more) .model)
+    ∙ rule.half-sent up
+    ∙ ap (λ (cs : List Call). planOf (run fresh cs .shown) k) announced
+    ∙ sym (ap (λ (m : Model). planOf (m .shown) k) (demand-3 s pre gs v first .model))
+
+module _ {pre : List Call} {c : Call} {v w : World} {g : Got} (called : Called pre c v g w) where
+  -- A call that neither completes an upload of a kind nor empties its plan leaves that plan as it stood.
+  pub plan-stands : (k : ℕ) → Spares pre c k → planOf (shows w .shown) k ≡ planOf (shows v .shown) k
+  plan-stands k spares =
+      ap (λ (m : Model). planOf (m .shown) k) (after called)
+      ∙ rule.plan-stands pre c k spares
+      ∙ sym (ap (λ (m : Model). planOf (m .shown) k) (before called))
+
+  -- Giving up changes no plan: a timer call never does.
+  pub timer-spares : (now j : ℕ) → hears c ≡ expiry now j → (k : ℕ) → planOf (shows w .shown) k ≡ planOf (shows v .shown) k
+  timer-spares now j sent k = plan-stands k (rule.expiry-spares pre c k now j sent)
+
+  -- ---- a completed upload
+
+  -- At its last item an upload takes effect at one stroke: what is shown is what was shown, with the items put in.
+  pub takes-effect : (k : ℕ) (items : List Bytes) → Completes pre c k items → shows w .shown ≡ put k items (shows v .shown)
+  takes-effect k items completed =
+      ap (λ (m : Model). m .shown) (after called)
+      ∙ demand-3 (called .store) (pre ++ (c ∷ [])) (called .given ++ (g ∷ [])) w (all called) .takes pre [] c refl k items completed
+      ∙ ap (λ (m : Model). put k items (m .shown)) (sym (before called))
+
+  -- ---- a call that is answered and changes nothing
+
+  -- what a call gave is this message, as the rules write it and as it is read; and state and store show what they showed
+  pub record Answers (reply : Message) : Type 0 where
+    pub gives : g ≡ gotOf (says reply)
+    pub read : decode (g .id) (g .reply) ≡ reply
+    pub unchanged : shows w ≡ shows v
+
+  answers-by : (reply : Message) → Says pre c (says reply) → Answers reply
+  answers-by reply by-rule =
+      record {
+        gives = gave called ∙ ap gotOf (by-rule .answer);
+        read = subst (λ (a : Answer). ReadsBack a (g .id) (g .reply)) (by-rule .answer) (reads called);
+        unchanged = after called ∙ by-rule .unchanged ∙ sym (before called);
+      }
+
+  -- An item out of turn, a repeated one among them, changes nothing and is answered by a request for the expected one.
+  pub out-of-turn :
+      (k : ℕ) (o : Station) (n : ℕ) (got : List Bytes) (started repeats now : ℕ) (item : Item) → Open k o n pre got started repeats
+      → hears c ≡ request o now k (brings item) → (item .seq ≡ length got → ⊥) → Answers (requestInt o (length got) k)
+  out-of-turn k o n got started repeats now item up sent other =
+      answers-by (requestInt o (length got) k) (rule.out-of-turn pre c k o n got started repeats now item up sent other)
+
+  -- A second station's COUNT of the same kind is denied and changes nothing.
+  pub second-station :
+      (k : ℕ) (o o′ : Station) (n n′ : ℕ) (got : List Bytes) (started repeats now : ℕ) → Open k o n pre got started repeats → (o′ ≡ o → ⊥)
+      → hears c ≡ request o′ now k (announces n′) → Answers (ack o′ denied k 0)
+  second-station k o o′ n n′ got started repeats now up other sent =
+      answers-by (ack o′ denied k 0) (rule.second-station pre c k o o′ n n′ got started repeats now up other sent)
+
+  -- ---- kinds apart
+
+  -- a kind's plan and upload are what they were
+  pub record Untouched (k : ℕ) : Type 0 where
+    pub plan : planOf (shows w .shown) k ≡ planOf (shows v .shown) k
+    pub upload : uploadOf (shows w) k ≡ uploadOf (shows v) k
+
+  untouched-by : (k : ℕ) → rule.Untouched pre c k → Untouched k
+  untouched-by k by-rule =
+      record {
+        plan = ap (λ (m : Model). planOf (m .shown) k) (after called) ∙ by-rule .plan ∙ sym (ap (λ (m : Model). planOf (m .shown) k) (before called));
+        upload = ap (λ (m : Model). uploadOf m k) (after called) ∙ by-rule .upload ∙ sym (ap (λ (m : Model). uploadOf m k) (before called));
+      }
+
+  -- Calls about one kind leave the other kinds' plans and uploads as they are: messages, but for a clear of every kind,
+  pub message-apart :
+      (k j : ℕ) (o : Station) (now : ℕ) (q : Request) → hears c ≡ request o now j q → (j ≡ k → ⊥) → (q ≡ clears → j ≡ everyKind → ⊥) → Untouched k
+  message-apart k j o now q sent apart notall = untouched-by k (rule.message-apart pre c k j o now q sent apart notall)
+
+  -- timer calls, and "command done".
+  pub timer-apart : (k j now : ℕ) → hears c ≡ expiry now j → (j ≡ k → ⊥) → Untouched k
+  timer-apart k j now sent apart = untouched-by k (rule.timer-apart pre c k j now sent apart)
+
+  pub done-apart : (k : ℕ) → hears c ≡ commandDone → Untouched k
+  done-apart k sent = untouched-by k (rule.done-apart pre c k sent)
+
+-- ---- the item that comes back
+
+-- After an upload by calls that fit took effect, REQUEST_INT i is answered with the sender's item i: what was given is read as that item, bit for bit.
+pub item-comes-back :
+    {pre : List Call} {c c′ : Call} {k : ℕ} {items : List Bytes} {v w : World} {g : Got} → Called (pre ++ (c ∷ [])) c′ v g w → (done : Completes pre c k items)
+    → CallsFit (pre ++ (c ∷ [])) → (o : Station) (now i : ℕ) (d : Item) → hears c′ ≡ request o now k (asksItem i) → i < length (uploadedItems done)
+    → decode (g .id) (g .reply) ≡ itemInt o (currentField k i (shows v .shown .current)) (getD (uploadedItems done) i d)
+item-comes-back {pre} {c} {c′} {k} {items} {v} {w} {g} called done fit o now i d sent below =
+    subst (λ (a : Answer). ReadsBack a (g .id) (g .reply)) (rule.item-answered pre c c′ k items done o now i d fit sent below) (reads called)
+    ∙ ap (λ (m : Model). itemInt o (currentField k i (m .shown .current)) (getD (uploadedItems done) i d)) (sym (before called))
