@@ -68,12 +68,12 @@ pub fn on_request(
     let k = kind as usize;
     let plan = state.plans[k];
     if seq < plan.len {
-        let patterns = storage::fetch_patterns(store, kind, plan.half, seq);
+        let item = storage::fetch(store, kind, plan.half, seq);
         let message = wire::ItemInt {
             system,
             component,
             current: current_field(kind, seq, state.current),
-            patterns,
+            item,
         };
         let len = reply::write_item_int(message, reply);
         return Served {

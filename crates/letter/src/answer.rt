@@ -60,8 +60,8 @@ fn count(m: Count) {
 fn one_item(m: ItemInt) {
     station(m.system, m.component);
     text(b": ");
-    let p = m.patterns;
-    item(p);
+    let told = m.item;
+    item(told);
 }
 
 // To whom the answer goes and what it says.

@@ -1,5 +1,5 @@
 // The items that the tablets send. Places are degrees times ten million.
-use wire::Patterns;
+use item::Item;
 
 pub const WAYPOINT: u16 = 16;
 
@@ -14,54 +14,59 @@ const TEN: u32 = 0x4120_0000;
 
 const TWO_HUNDRED: u32 = 0x4348_0000;
 
+// The frames: heights above sea level, and above the starting place.
+const GLOBAL: u8 = 0;
+
+const RELATIVE: u8 = 6;
+
 const HOME_X: u32 = 476201000;
 
 const HOME_Y: u32 = 93705000;
 
 // A flight item, 10 metres above the starting place.
-fn flight(seq: u16, command: u16, x: u32, y: u32) -> Patterns {
-    Patterns {
-        bits1: 0,
-        bits2: 0,
-        bits3: 0,
-        bits4: 0,
-        bits_x: x,
-        bits_y: y,
-        bits_z: TEN,
+fn flight(seq: u16, command: u16, x: u32, y: u32) -> Item {
+    item::made(
+        0,
+        0,
+        0,
+        0,
+        x,
+        y,
+        TEN,
         seq,
         command,
-        frame: 6,
-        autocontinue: 1,
-        kind: plan::FLIGHT,
-    }
+        RELATIVE,
+        1,
+        plan::FLIGHT,
+    )
 }
 
-pub fn takeoff() -> Patterns {
+pub fn takeoff() -> Item {
     flight(0, TAKEOFF, HOME_X, HOME_Y)
 }
 
-pub fn land(seq: u16) -> Patterns {
+pub fn land(seq: u16) -> Item {
     flight(seq, LAND, HOME_X, HOME_Y)
 }
 
-pub fn waypoint(seq: u16, x: u32, y: u32) -> Patterns {
+pub fn waypoint(seq: u16, x: u32, y: u32) -> Item {
     flight(seq, WAYPOINT, x, y)
 }
 
 // A circle of 200 metres to stay inside.
-pub fn circle(seq: u16, x: u32, y: u32) -> Patterns {
-    Patterns {
-        bits1: TWO_HUNDRED,
-        bits2: 0,
-        bits3: 0,
-        bits4: 0,
-        bits_x: x,
-        bits_y: y,
-        bits_z: 0,
+pub fn circle(seq: u16, x: u32, y: u32) -> Item {
+    item::made(
+        TWO_HUNDRED,
+        0,
+        0,
+        0,
+        x,
+        y,
+        0,
         seq,
-        command: CIRCLE,
-        frame: 0,
-        autocontinue: 1,
-        kind: plan::FENCE,
-    }
+        CIRCLE,
+        GLOBAL,
+        1,
+        plan::FENCE,
+    )
 }

@@ -1,6 +1,6 @@
 // Words, numbers and places on standard output.
 use crate::items;
-use wire::Patterns;
+use item::Item;
 
 pub fn text(words: &[u8]) {
     io::write_all(1, words);
@@ -75,14 +75,14 @@ fn degrees(bits: u32) {
 }
 
 // An item's number, what it asks for, and where.
-pub fn item(p: Patterns) {
+pub fn item(told: Item) {
     text(b"item ");
-    number(of_short(p.seq));
+    number(of_short(told.seq));
     text(b", ");
-    command(p.command);
+    command(told.command);
     text(b" at ");
-    degrees(p.bits_x);
+    degrees(told.bits_x);
     text(b", ");
-    degrees(p.bits_y);
+    degrees(told.bits_y);
     text(b"\n");
 }

@@ -2,8 +2,8 @@
 use crate::answer;
 use crate::print;
 use crate::print::text;
+use item::Item;
 use plan::State;
-use wire::Patterns;
 
 // The drone is 1/1. Your tablet is 255/190, the neighbour's 254/190.
 const DRONE: u8 = 1;
@@ -85,19 +85,13 @@ pub fn count(
 }
 
 // A tablet sends an item.
-pub fn item(
-    state: State,
-    store: &mut [u8; 26752],
-    from: u8,
-    patterns: Patterns,
-    clock: u32,
-) -> State {
+pub fn item(state: State, store: &mut [u8; 26752], from: u8, sent: Item, clock: u32) -> State {
     says(from);
     text(b"ITEM_INT, ");
-    print::kind(patterns.kind);
+    print::kind(sent.kind);
     text(b" ");
-    print::item(patterns);
-    let payload = reply::item_bytes(DRONE, DRONE, 0, patterns);
+    print::item(sent);
+    let payload = reply::item_bytes(DRONE, DRONE, 0, sent);
     send(state, store, from, wire::ITEM_INT_ID, &payload, clock)
 }
 

@@ -90,8 +90,7 @@ pub fn answer(
         // ITEM_INT is the only other message that is read here.
         _ => {
             let m = wire::read_item_int(payload);
-            let patterns = m.patterns;
-            let item = storage::item_of(patterns);
+            let item = m.item;
             on_item(state, store, kind, item, system, component, clock, reply)
         }
     }

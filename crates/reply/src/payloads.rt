@@ -4,12 +4,13 @@ ghost use mathlib.Core.List.{[], _∷_};
 ghost use Rattle.rules.specs.Payload.{bytesOf};
 ghost use Rattle.rules.specs.Step.{refusalText};
 ghost use Rattle.rules.specs.Messages.{station, itemInt, encode};
-ghost use Rattle.wire.specs.Structs.{currentMessage, countMessage, ackMessage, requestIntMessage, patternsItem, statustextMessage};
+ghost use Rattle.wire.specs.Structs.{currentMessage, countMessage, ackMessage, requestIntMessage, statustextMessage};
+ghost use Rattle.item.specs.Patterns.{patterns};
 use crate::trim::copy;
+use item::Item;
 use wire::Ack;
 use wire::Count;
 use wire::Current;
-use wire::Patterns;
 use wire::RequestInt;
 use wire::Statustext;
 
@@ -106,19 +107,19 @@ pub fn request_int_bytes(m: RequestInt) -> [u8; 5]
     [seq.0, seq.1, m.system, m.component, m.kind]
 }
 
-// The 38 bytes of ITEM_INT, also those of a stored item, whose system, component and current are 0.
-pub fn item_bytes(system: u8, component: u8, current: u8, patterns: Patterns) -> [u8; 38]
-    ensures { λ r. ⌜ r ≡ encode (itemInt (station system component) current (patternsItem patterns)) ⌝ }
+// The 38 bytes of ITEM_INT, written from the item's patterns; also those of a stored item, whose system, component and current are 0.
+pub fn item_bytes(system: u8, component: u8, current: u8, item: Item) -> [u8; 38]
+    ensures { λ r. ⌜ r ≡ encode (itemInt (station system component) current (patterns item)) ⌝ }
 {
-    let a = bytes32(patterns.bits1);
-    let b = bytes32(patterns.bits2);
-    let c = bytes32(patterns.bits3);
-    let d = bytes32(patterns.bits4);
-    let x = bytes32(patterns.bits_x);
-    let y = bytes32(patterns.bits_y);
-    let z = bytes32(patterns.bits_z);
-    let seq = bytes16(patterns.seq);
-    let command = bytes16(patterns.command);
+    let a = bytes32(item.bits1);
+    let b = bytes32(item.bits2);
+    let c = bytes32(item.bits3);
+    let d = bytes32(item.bits4);
+    let x = bytes32(item.bits_x);
+    let y = bytes32(item.bits_y);
+    let z = bytes32(item.bits_z);
+    let seq = bytes16(item.seq);
+    let command = bytes16(item.command);
     [
         a.0,
         a.1,
@@ -154,10 +155,10 @@ pub fn item_bytes(system: u8, component: u8, current: u8, patterns: Patterns) ->
         command.1,
         system,
         component,
-        patterns.frame,
+        item.frame,
         current,
-        patterns.autocontinue,
-        patterns.kind,
+        item.autocontinue,
+        item.kind,
     ]
 }
 

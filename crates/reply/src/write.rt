@@ -54,8 +54,8 @@ pub fn write_request_int(m: RequestInt, out: &mut [u8]) -> usize
 pub fn write_item_int(m: ItemInt, out: &mut [u8]) -> usize
     ensures { λ r. ⌜ Written (encode (itemIntMessage m)) (now (out .entry)) (now (out .exit)) r ⌝ }
 {
-    let patterns = m.patterns;
-    let bytes = item_bytes(m.system, m.component, m.current, patterns);
+    let item = m.item;
+    let bytes = item_bytes(m.system, m.component, m.current, item);
     write_trimmed(ITEM_INT_ID, &bytes, out)
 }
 

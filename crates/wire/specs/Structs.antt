@@ -1,6 +1,7 @@
 -- The rules' message that each struct stands for.
 use Rattle.rules.specs.Messages as rules
 use Rattle.rules.specs.Messages.{Message, station}
+use Rattle.item.specs.Patterns.{patterns}
 use Rattle.wire.specs.declared.structs.SetCurrent.{SetCurrent}
 use Rattle.wire.specs.declared.structs.Current.{Current}
 use Rattle.wire.specs.declared.structs.RequestList.{RequestList}
@@ -8,7 +9,6 @@ use Rattle.wire.specs.declared.structs.Count.{Count}
 use Rattle.wire.specs.declared.structs.ClearAll.{ClearAll}
 use Rattle.wire.specs.declared.structs.Ack.{Ack}
 use Rattle.wire.specs.declared.structs.RequestInt.{RequestInt}
-use Rattle.wire.specs.declared.structs.Patterns.{Patterns}
 use Rattle.wire.specs.declared.structs.ItemInt.{ItemInt}
 use Rattle.wire.specs.declared.structs.Statustext.{Statustext}
 
@@ -33,25 +33,8 @@ ackMessage m = rules.ack (station (m .system) (m .component)) (m .result) (m .ki
 abbrev pub requestIntMessage : RequestInt → Message
 requestIntMessage m = rules.requestInt (station (m .system) (m .component)) (m .seq) (m .kind)
 
-abbrev pub patternsItem : Patterns → rules.Item
-patternsItem p =
-    record {
-      param1 = p .bits1;
-      param2 = p .bits2;
-      param3 = p .bits3;
-      param4 = p .bits4;
-      x = p .«bits_x»;
-      y = p .«bits_y»;
-      z = p .«bits_z»;
-      seq = p .seq;
-      command = p .command;
-      frame = p .frame;
-      autocontinue = p .autocontinue;
-      kind = p .kind;
-    }
-
 abbrev pub itemIntMessage : ItemInt → Message
-itemIntMessage m = rules.itemInt (station (m .system) (m .component)) (m .current) (patternsItem (m .patterns))
+itemIntMessage m = rules.itemInt (station (m .system) (m .component)) (m .current) (patterns (m .item))
 
 abbrev pub statustextMessage : Statustext → Message
 statustextMessage m = rules.statustext (m .severity) (m .text) (m .id) (m .chunk)

@@ -5,7 +5,7 @@ mod read;
 mod structs;
 mod table;
 
-pub use read::patterns_at;
+pub use read::item_at;
 pub use read::read_ack;
 pub use read::read_clear_all;
 pub use read::read_count;
@@ -18,7 +18,6 @@ pub use structs::ClearAll;
 pub use structs::Count;
 pub use structs::Current;
 pub use structs::ItemInt;
-pub use structs::Patterns;
 pub use structs::RequestInt;
 pub use structs::RequestList;
 pub use structs::SetCurrent;

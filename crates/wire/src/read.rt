@@ -2,7 +2,8 @@
 ghost use mathlib.Core.Path.{_≡_};
 ghost use Rattle.rules.specs.Layouts.{setCurrentId, requestListId, countId, clearAllId, ackId, requestIntId, itemIntId};
 ghost use Rattle.rules.specs.Messages.{decode, itemIn};
-ghost use Rattle.wire.specs.Structs.{setCurrentMessage, requestListMessage, countMessage, clearAllMessage, ackMessage, requestIntMessage, itemIntMessage, patternsItem};
+ghost use Rattle.wire.specs.Structs.{setCurrentMessage, requestListMessage, countMessage, clearAllMessage, ackMessage, requestIntMessage, itemIntMessage};
+ghost use Rattle.item.specs.Patterns.{itemFor, patterns};
 use crate::fields::byte_at;
 use crate::fields::u16_at;
 use crate::fields::u32_at;
@@ -10,7 +11,6 @@ use crate::structs::Ack;
 use crate::structs::ClearAll;
 use crate::structs::Count;
 use crate::structs::ItemInt;
-use crate::structs::Patterns;
 use crate::structs::RequestInt;
 use crate::structs::RequestList;
 use crate::structs::SetCurrent;
@@ -22,6 +22,7 @@ use crate::table::REQUEST_INT_ID;
 use crate::table::REQUEST_LIST_ID;
 use crate::table::SET_CURRENT_ID;
 use crate::table::own_part;
+use item::Item;
 
 pub fn read_set_current(p: &[u8]) -> SetCurrent
     ensures { λ r. ⌜ setCurrentMessage r ≡ decode setCurrentId (now (p .entry)) ⌝ }
@@ -95,34 +96,34 @@ pub fn read_request_int(p: &[u8]) -> RequestInt
 }
 
 // The item in a payload of ITEM_INT, or in the 38 bytes of a stored item.
-pub fn patterns_at(p: &[u8]) -> Patterns
-    ensures { λ r. ⌜ patternsItem r ≡ itemIn (now (p .entry)) ⌝ }
+pub fn item_at(p: &[u8]) -> Item
+    ensures { λ r. ⌜ r ≡ itemFor (itemIn (now (p .entry))) ⌝ }
 {
-    Patterns {
-        bits1: u32_at(p, 0),
-        bits2: u32_at(p, 4),
-        bits3: u32_at(p, 8),
-        bits4: u32_at(p, 12),
-        bits_x: u32_at(p, 16),
-        bits_y: u32_at(p, 20),
-        bits_z: u32_at(p, 24),
-        seq: u16_at(p, 28),
-        command: u16_at(p, 30),
-        frame: byte_at(p, 34),
-        autocontinue: byte_at(p, 36),
-        kind: byte_at(p, 37),
-    }
+    item::made(
+        u32_at(p, 0),
+        u32_at(p, 4),
+        u32_at(p, 8),
+        u32_at(p, 12),
+        u32_at(p, 16),
+        u32_at(p, 20),
+        u32_at(p, 24),
+        u16_at(p, 28),
+        u16_at(p, 30),
+        byte_at(p, 34),
+        byte_at(p, 36),
+        byte_at(p, 37),
+    )
 }
 
 pub fn read_item_int(p: &[u8]) -> ItemInt
-    ensures { λ r. ⌜ itemIntMessage r ≡ decode itemIntId (now (p .entry)) ⌝ }
+    ensures { λ r. ⌜ (itemIntMessage r ≡ decode itemIntId (now (p .entry))) × (r .item ≡ itemFor (patterns (r .item))) ⌝ }
 {
     let own = own_part(ITEM_INT_ID, p);
-    let patterns = patterns_at(own);
+    let item = item_at(own);
     ItemInt {
         system: byte_at(own, 32),
         component: byte_at(own, 33),
         current: byte_at(own, 35),
-        patterns,
+        item,
     }
 }

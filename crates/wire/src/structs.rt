@@ -1,4 +1,6 @@
 // A struct for each message that is read or written here. Fields as MAVLink has them; `number` is the plan number.
+use item::Item;
+
 pub struct SetCurrent {
     pub seq: u16,
     pub system: u8,
@@ -50,27 +52,11 @@ pub struct RequestInt {
     pub kind: u8,
 }
 
-// What an item says: params, x, y and z as 32-bit patterns, NaN patterns among them, beside its integers.
-pub struct Patterns {
-    pub bits1: u32,
-    pub bits2: u32,
-    pub bits3: u32,
-    pub bits4: u32,
-    pub bits_x: u32,
-    pub bits_y: u32,
-    pub bits_z: u32,
-    pub seq: u16,
-    pub command: u16,
-    pub frame: u8,
-    pub autocontinue: u8,
-    pub kind: u8,
-}
-
 pub struct ItemInt {
     pub system: u8,
     pub component: u8,
     pub current: u8,
-    pub patterns: Patterns,
+    pub item: Item,
 }
 
 pub struct Statustext {

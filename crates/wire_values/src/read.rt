@@ -1,5 +1,6 @@
 // MAVLink's own test values, read. Each case answers whether every field is the one sent.
 use crate::say;
+use item::Item;
 
 pub fn all() {
     say::read(41, set_current());
@@ -53,29 +54,29 @@ fn item_int() -> bool {
     let m = wire::read_item_int(
         b"\x00\x00\x88\x41\x00\x00\x34\x42\x00\x00\x92\x42\x00\x00\xca\x42\x38\xd1\x6d\x39\x08\xd2\x6d\x39\x00\x00\x39\x43\x03\x49\x6b\x49\x65\xa8\xeb\x2e\x71\xb4",
     );
-    let read = m.patterns;
-    (m.system == 101) & (m.component == 168) & (m.current == 46) & same(read, test_patterns())
+    let read = m.item;
+    (m.system == 101) & (m.component == 168) & (m.current == 46) & same(read, test_item())
 }
 
 // The test values of ITEM_INT: params 17, 45, 73 and 101 and z 185 by their patterns.
-pub fn test_patterns() -> wire::Patterns {
-    wire::Patterns {
-        bits1: 0x4188_0000,
-        bits2: 0x4234_0000,
-        bits3: 0x4292_0000,
-        bits4: 0x42ca_0000,
-        bits_x: 963498296,
-        bits_y: 963498504,
-        bits_z: 0x4339_0000,
-        seq: 18691,
-        command: 18795,
-        frame: 235,
-        autocontinue: 113,
-        kind: 180,
-    }
+pub fn test_item() -> Item {
+    item::made(
+        0x4188_0000,
+        0x4234_0000,
+        0x4292_0000,
+        0x42ca_0000,
+        963498296,
+        963498504,
+        0x4339_0000,
+        18691,
+        18795,
+        235,
+        113,
+        180,
+    )
 }
 
-fn same_values(a: wire::Patterns, b: wire::Patterns) -> bool {
+fn same_patterns(a: Item, b: Item) -> bool {
     (a.bits1 == b.bits1)
         & (a.bits2 == b.bits2)
         & (a.bits3 == b.bits3)
@@ -85,9 +86,9 @@ fn same_values(a: wire::Patterns, b: wire::Patterns) -> bool {
         & (a.bits_z == b.bits_z)
 }
 
-// Whether two items are the same in every field.
-pub fn same(a: wire::Patterns, b: wire::Patterns) -> bool {
-    same_values(a, b)
+// Whether two items are the same in every pattern and number.
+pub fn same(a: Item, b: Item) -> bool {
+    same_patterns(a, b)
         & (a.seq == b.seq)
         & (a.command == b.command)
         & (a.frame == b.frame)

@@ -1,6 +1,6 @@
 // MAVLink's own test values, written, and NaN patterns written and read back. Each case answers whether every byte is the one meant.
 use crate::read::same;
-use crate::read::test_patterns;
+use crate::read::test_item;
 use crate::say;
 
 pub fn all() {
@@ -84,12 +84,12 @@ fn request_int() -> bool {
 }
 
 fn item_int() -> bool {
-    let patterns = test_patterns();
+    let item = test_item();
     let m = wire::ItemInt {
         system: 101,
         component: 168,
         current: 46,
-        patterns,
+        item,
     };
     let mut out = [BEFORE; 60];
     let n = reply::write_item_int(m, &mut out);
@@ -120,20 +120,20 @@ fn statustext() -> bool {
 
 // Quiet, signalling, negative and full NaN patterns, and minus zero.
 fn nan_patterns() -> bool {
-    let patterns = wire::Patterns {
-        bits1: 0x7fc0_0001,
-        bits2: 0x7f80_0001,
-        bits3: 0xffc1_2345,
-        bits4: 0xffff_ffff,
-        bits_x: 0x8000_0000,
-        bits_y: 0xffff_ffff,
-        bits_z: 0x8000_0000,
-        seq: 3,
-        command: 16,
-        frame: 6,
-        autocontinue: 1,
-        kind: 0,
-    };
-    let bytes = reply::item_bytes(0, 0, 0, patterns);
-    same(wire::patterns_at(&bytes), patterns)
+    let written = item::made(
+        0x7fc0_0001,
+        0x7f80_0001,
+        0xffc1_2345,
+        0xffff_ffff,
+        0x8000_0000,
+        0xffff_ffff,
+        0x8000_0000,
+        3,
+        16,
+        6,
+        1,
+        0,
+    );
+    let bytes = reply::item_bytes(0, 0, 0, written);
+    same(wire::item_at(&bytes), written)
 }

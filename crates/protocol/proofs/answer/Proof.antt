@@ -13,8 +13,7 @@ use Rattle.rules.specs.Messages.{Station, station, ack, messageOf, decode}
 use Rattle.rules.specs.Laws.Tests.{either}
 use Rattle.rules.specs.Calls.{Request, chooses, asksList, announces, clears, acknowledges, asksItem, brings, isKnown}
 use Rattle.rules.specs.Step.{says, covered, kindOk}
-use Rattle.item.specs.declared.Item.{Item}
-use Rattle.item.specs.Patterns.{patterns, itemFor, patterns-of, values-of}
+use Rattle.item.specs.Patterns.{patterns}
 use Rattle.wire.specs.declared.table.Head.{Head}
 use Rattle.wire.specs.declared.structs.SetCurrent.{SetCurrent}
 use Rattle.wire.specs.declared.structs.Count.{Count}
@@ -22,7 +21,7 @@ use Rattle.wire.specs.declared.structs.Ack.{Ack}
 use Rattle.wire.specs.declared.structs.RequestInt.{RequestInt}
 use Rattle.wire.specs.declared.structs.ItemInt.{ItemInt}
 use Rattle.wire.specs.Table.{isRead, kindOf, headOf}
-use Rattle.wire.specs.Structs.{setCurrentMessage, countMessage, ackMessage, requestIntMessage, itemIntMessage, patternsItem}
+use Rattle.wire.specs.Structs.{setCurrentMessage, countMessage, ackMessage, requestIntMessage, itemIntMessage}
 use Rattle.plan.specs.declared.State.{State}
 use Rattle.plan.specs.View.{planOf}
 use Rattle.refusal.specs.Refusals.{requestOf}
@@ -130,13 +129,11 @@ module _ (st : State) (s : Bytes) (system component clock id : ℕ) (p : Bytes) 
 
     module _ (read : isRead (decode id p) ≡ true) (n41 : id ≡ setCurrentId → ⊥) (n43 : id ≡ requestListId → ⊥) (n44 : id ≡ countId → ⊥)
         (n45 : id ≡ clearAllId → ⊥) (n47 : id ≡ ackId → ⊥) (n51 : id ≡ requestIntId → ⊥) where
-      brings-item : (s′ b b′ : Bytes) (r : Served) (m : ItemInt) (item : Item) → itemIntMessage m ≡ decode itemIntId p
-          → item ≡ itemFor (patternsItem (m .patterns)) → Handled (knownDone st s from clock (head .kind) (brings (patterns item))) s′ b b′ r
-          → Goal s′ b b′ r
-      brings-item s′ b b′ r m item reads made handled =
+      brings-item : (s′ b b′ : Bytes) (r : Served) (m : ItemInt) → itemIntMessage m ≡ decode itemIntId p
+          → Handled (knownDone st s from clock (head .kind) (brings (patterns (m .item)))) s′ b b′ r → Goal s′ b b′ r
+      brings-item s′ b b′ r m reads handled =
           let e : id ≡ itemIntId = item-left id p read n41 n43 n44 n45 n47 n51 in
-          let asked : requestOf (decode id p) ≡ brings (patternsItem (m .patterns)) = rw e (ap requestOf (sym reads)) in
-          request-done (brings (patterns item)) s′ b b′ r (asked ∙ ap brings (sym (patterns-of made))) (handled .answered) (handled .store)
+          request-done (brings (patterns (m .item))) s′ b b′ r (rw e (ap requestOf (sym reads))) (handled .answered) (handled .store)
 
 head-of-requires : tie.Need-head-of-requires
 head-of-requires c κs = search needs
@@ -186,11 +183,8 @@ on-request-requires c κs = search (known-request, needs)
 read-item-int-requires : tie.Need-read-item-int-requires
 read-item-int-requires c κs = search needs
 
-item-of-requires : tie.Need-item-of-requires
-item-of-requires c κs = search needs
-
 on-item-requires : tie.Need-on-item-requires
-on-item-requires c κs = search (known-kind, values-of, needs)
+on-item-requires c κs = search (known-kind, needs)
 
 same-length-2 : tie.Need-same-length-2
 same-length-2 c = search needs
@@ -236,7 +230,7 @@ same-length-9 c = search needs
 
 returns-8 : tie.Need-returns-8
 returns-8 c =
-    let told = c .before .before .before .before .before .before .before .before .before .before in
+    let told = c .before .before .before .before .before .before .before .before .before in
     search (brings-item, told .match .rest, told .before .before .before .before .before .before .before .pre, needs)
 
 pub answer-spec : {M : Type 1} → statement M
@@ -259,7 +253,6 @@ answer-spec =
     read-request-int-requires
     on-request-requires
     read-item-int-requires
-    item-of-requires
     on-item-requires
     same-length-2
     returns-2

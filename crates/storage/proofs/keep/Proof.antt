@@ -12,16 +12,13 @@ use borrow.Author.Needs.{needs}
 use Rattle.storage.proofs.keep.Statement.{statement}
 use Rattle.storage.proofs.keep.Tie as tie
 
-put-there : (store after : Bytes) (half : Bool) (kind n at : ℕ) (bytes : Bytes) (p i : Item) → at ≡ offsetOf half kind n → p ≡ i
-    → bytes ≡ encode (itemInt (station 0 0) 0 p) → after ≡ put store at bytes → after ≡ putAt store half kind n (itemOf i)
+put-there : (store after : Bytes) (half : Bool) (kind n at : ℕ) (bytes : Bytes) (i : Item) → at ≡ offsetOf half kind n
+    → bytes ≡ encode (itemInt (station 0 0) 0 i) → after ≡ put store at bytes → after ≡ putAt store half kind n (itemOf i)
 unfolding itemOf
-put-there store after half kind n at bytes p i place same written is =
+put-there store after half kind n at bytes i place written is =
     is
     ∙ ap (λ (k : ℕ). put store k bytes) place
-    ∙ ap (put store (offsetOf half kind n)) (written ∙ ap (λ (j : Item). encode (itemInt (station 0 0) 0 j)) same)
-
-patterns-of-requires : tie.Need-patterns-of-requires
-patterns-of-requires c κs = search needs
+    ∙ ap (put store (offsetOf half kind n)) written
 
 item-bytes-requires : tie.Need-item-bytes-requires
 item-bytes-requires c κs = search needs
@@ -31,7 +28,7 @@ place-at-requires c κs = search needs
 
 put-item-requires : tie.Need-put-item-requires
 put-item-requires c κs =
-    let a = c .before .before .before .before .before .args in
+    let a = c .before .before .before .before .args in
     omega (arith, offset-within (a .half) (a .kind) (a .n) (search needs) (search needs))
 
 same-length : tie.Need-same-length
@@ -43,4 +40,4 @@ returns c = search (put-there, needs)
 pub keep-spec : {M : Type 1} → statement M
 keep-spec =
     tie.close
-    (tie.spec patterns-of-requires item-bytes-requires place-at-requires put-item-requires same-length returns)
+    (tie.spec item-bytes-requires place-at-requires put-item-requires same-length returns)

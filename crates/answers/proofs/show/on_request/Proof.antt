@@ -12,8 +12,8 @@ use Rattle.rules.specs.Payload.{Bytes}
 use Rattle.rules.specs.Messages.{station, ack, itemInt, encode, itemIn}
 use Rattle.rules.specs.Layouts.{itemIntId}
 use Rattle.rules.specs.Step.{says}
-use Rattle.wire.specs.declared.structs.Patterns.{Patterns}
-use Rattle.wire.specs.Structs.{patternsItem}
+use Rattle.item.specs.declared.Item.{Item}
+use Rattle.item.specs.Patterns.{patterns, itemFor, patterns-of}
 use Rattle.plan.specs.declared.State.{State}
 use Rattle.plan.specs.Places.{itemAt}
 use Rattle.plan.specs.View.{planOf}
@@ -30,14 +30,14 @@ within : (st : State) (kind seq : ℕ) → stateRanged st ≡ true → kind ≤ 
 within st kind seq ranged known below = omega (arith, plan-ranges st kind ranged known .len)
 
 module _ (st : State) (store : Bytes) (system component kind seq : ℕ) (b b′ : Bytes) where
-  shown : (field : ℕ) (patterns : Patterns) (n : ℕ) → replyBytesMin ≤ length b → seq < planOf st kind .len
-      → patternsItem patterns ≡ itemIn (itemAt store (planOf st kind .half) kind seq)
+  shown : (field : ℕ) (item : Item) (n : ℕ) → replyBytesMin ≤ length b → seq < planOf st kind .len
+      → item ≡ itemFor (itemIn (itemAt store (planOf st kind .half) kind seq))
       → field ≡ cond (eqb kind flight && eqb seq (st .current)) 1 0
-      → Written (encode (itemInt (station system component) field (patternsItem patterns))) b b′ n
+      → Written (encode (itemInt (station system component) field (patterns item))) b b′ n
       → AnsweredBy (requestDone st store (station system component) kind seq) b b′ (served st replied itemIntId n)
   unfolding requestDone
-  shown field patterns n enough below fetched current w =
-      rw (lt-ltb _ _ below, sym fetched, sym current) (written-answered (itemInt (station system component) field (patternsItem patterns)) b b′ n enough w st)
+  shown field item n enough below fetched current w =
+      rw (lt-ltb _ _ below, sym (patterns-of fetched), sym current) (written-answered (itemInt (station system component) field (patterns item)) b b′ n enough w st)
 
   past : (s : Said) → planOf st kind .len ≤ seq → Spoken (says (ack (station system component) invalidSequence kind 0)) b b′ s
       → AnsweredBy (requestDone st store (station system component) kind seq) b b′ (served st (s .outcome) (s .id) (s .len))
@@ -50,8 +50,8 @@ mul-plan c = search needs
 element-copy-out-plan : tie.Need-element-copy-out-plan
 element-copy-out-plan c = search needs
 
-fetch-patterns-requires : tie.Need-fetch-patterns-requires
-fetch-patterns-requires c κs = search (within, needs)
+fetch-requires : tie.Need-fetch-requires
+fetch-requires c κs = search (within, needs)
 
 current-field-requires : tie.Need-current-field-requires
 current-field-requires c κs = search needs
@@ -80,7 +80,7 @@ on-request-spec =
     (tie.spec
     mul-plan
     element-copy-out-plan
-    fetch-patterns-requires
+    fetch-requires
     current-field-requires
     write-item-int-requires
     same-length

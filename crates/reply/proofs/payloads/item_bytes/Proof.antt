@@ -35,7 +35,7 @@ bytes16-requires c κs = search needs
 bytes16-requires-2 : tie.Need-bytes16-requires-2
 bytes16-requires-2 c κs = search needs
 
-fits : (c : tie.Start) → (c .args .system < 256) × (c .args .component < 256) × (c .args .patterns .frame < 256) × (c .args .current < 256) × (c .args .patterns .autocontinue < 256) × (c .args .patterns .kind < 256)
+fits : (c : tie.Start) → (c .args .system < 256) × (c .args .component < 256) × (c .args .item .frame < 256) × (c .args .current < 256) × (c .args .item .autocontinue < 256) × (c .args .item .kind < 256)
 fits c = (search needs, search needs, search needs, search needs, search needs, search needs)
 
 returns : tie.Need-returns
@@ -45,10 +45,10 @@ returns c =
     let fit = fits (c .before .before .before .before .before .before .before .before .before) in
     let system = one-byte (a .system) (fit .0) in
     let component = one-byte (a .component) (fit .1) in
-    let frame = one-byte (a .patterns .frame) (fit .2) in
+    let frame = one-byte (a .item .frame) (fit .2) in
     let current = one-byte (a .current) (fit .3) in
-    let autocontinue = one-byte (a .patterns .autocontinue) (fit .4) in
-    let kind = one-byte (a .patterns .kind) (fit .5) in
+    let autocontinue = one-byte (a .item .autocontinue) (fit .4) in
+    let kind = one-byte (a .item .kind) (fit .5) in
     λ i. (c .before .before .before .before .before .before .before .before .bytes32 .ensures) i ++ ((c .before .before .before .before .before .before .before .bytes322 .ensures) i ++ ((c .before .before .before .before .before .before .bytes323 .ensures) i ++ ((c .before .before .before .before .before .bytes324 .ensures) i ++ ((c .before .before .before .before .bytes325 .ensures) i ++ ((c .before .before .before .bytes326 .ensures) i ++ ((c .before .before .bytes327 .ensures) i ++ ((c .before .bytes16 .ensures) i ++ ((c .bytes162 .ensures) i ++ (system i ++ (component i ++ (frame i ++ (current i ++ (autocontinue i ++ (kind i ++ []))))))))))))))
 
 pub item-bytes-spec : {M : Type 1} → statement M
