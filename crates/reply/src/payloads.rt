@@ -3,9 +3,10 @@ ghost use mathlib.Core.Path.{_≡_};
 ghost use mathlib.Core.List.{[], _∷_};
 ghost use Rattle.rules.specs.Payload.{bytesOf};
 ghost use Rattle.rules.specs.Step.{refusalText};
-ghost use Rattle.rules.specs.Messages.{station, itemInt, encode};
+ghost use Rattle.rules.specs.Messages.{station, itemInt};
 ghost use Rattle.wire.specs.Structs.{currentMessage, countMessage, ackMessage, requestIntMessage, statustextMessage};
 ghost use Rattle.item.specs.Patterns.{patterns};
+ghost use Rattle.reply.specs.Written.{BytesOf};
 use crate::trim::copy;
 use item::Item;
 use wire::Ack;
@@ -37,7 +38,7 @@ fn bytes32(n: u32) -> Four
 }
 
 pub fn current_bytes(m: Current) -> [u8; 18]
-    ensures { λ r. ⌜ r ≡ encode (currentMessage m) ⌝ }
+    ensures { λ r. ⌜ BytesOf (currentMessage m) r ⌝ }
 {
     let seq = bytes16(m.seq);
     let total = bytes16(m.total);
@@ -67,7 +68,7 @@ pub fn current_bytes(m: Current) -> [u8; 18]
 }
 
 pub fn count_bytes(m: Count) -> [u8; 9]
-    ensures { λ r. ⌜ r ≡ encode (countMessage m) ⌝ }
+    ensures { λ r. ⌜ BytesOf (countMessage m) r ⌝ }
 {
     let count = bytes16(m.count);
     let number = bytes32(m.number);
@@ -85,7 +86,7 @@ pub fn count_bytes(m: Count) -> [u8; 9]
 }
 
 pub fn ack_bytes(m: Ack) -> [u8; 8]
-    ensures { λ r. ⌜ r ≡ encode (ackMessage m) ⌝ }
+    ensures { λ r. ⌜ BytesOf (ackMessage m) r ⌝ }
 {
     let number = bytes32(m.number);
     [
@@ -101,7 +102,7 @@ pub fn ack_bytes(m: Ack) -> [u8; 8]
 }
 
 pub fn request_int_bytes(m: RequestInt) -> [u8; 5]
-    ensures { λ r. ⌜ r ≡ encode (requestIntMessage m) ⌝ }
+    ensures { λ r. ⌜ BytesOf (requestIntMessage m) r ⌝ }
 {
     let seq = bytes16(m.seq);
     [seq.0, seq.1, m.system, m.component, m.kind]
@@ -109,7 +110,7 @@ pub fn request_int_bytes(m: RequestInt) -> [u8; 5]
 
 // The 38 bytes of ITEM_INT, written from the item's patterns; also those of a stored item, whose system, component and current are 0.
 pub fn item_bytes(system: u8, component: u8, current: u8, item: Item) -> [u8; 38]
-    ensures { λ r. ⌜ r ≡ encode (itemInt (station system component) current (patterns item)) ⌝ }
+    ensures { λ r. ⌜ BytesOf (itemInt (station system component) current (patterns item)) r ⌝ }
 {
     let a = bytes32(item.bits1);
     let b = bytes32(item.bits2);
@@ -163,7 +164,7 @@ pub fn item_bytes(system: u8, component: u8, current: u8, item: Item) -> [u8; 38
 }
 
 pub fn statustext_bytes(m: Statustext) -> [u8; 54]
-    ensures { λ r. ⌜ r ≡ encode (statustextMessage m) ⌝ }
+    ensures { λ r. ⌜ BytesOf (statustextMessage m) r ⌝ }
 {
     let text = m.text;
     let id = bytes16(m.id);

@@ -1,8 +1,7 @@
-// Writing each message into a lent buffer: the trimmed payload at its start, the rest unchanged, the length answered. A buffer that is
-// shorter than the message's full length stays as it is.
-ghost use Rattle.rules.specs.Messages.{encode};
+// Writing each message into a lent buffer: the trimmed payload at its start, the rest unchanged, the length answered; it reads back as the
+// message. A buffer that is shorter than the message's full length stays as it is.
 ghost use Rattle.wire.specs.Structs.{currentMessage, countMessage, ackMessage, requestIntMessage, itemIntMessage, statustextMessage};
-ghost use Rattle.reply.specs.Written.{Written};
+ghost use Rattle.reply.specs.Written.{Wrote};
 use crate::payloads::ack_bytes;
 use crate::payloads::count_bytes;
 use crate::payloads::current_bytes;
@@ -24,35 +23,35 @@ use wire::STATUSTEXT_ID;
 use wire::Statustext;
 
 pub fn write_current(m: Current, out: &mut [u8]) -> usize
-    ensures { λ r. ⌜ Written (encode (currentMessage m)) (now (out .entry)) (now (out .exit)) r ⌝ }
+    ensures { λ r. ⌜ Wrote (currentMessage m) (now (out .entry)) (now (out .exit)) r ⌝ }
 {
     let bytes = current_bytes(m);
     write_trimmed(CURRENT_ID, &bytes, out)
 }
 
 pub fn write_count(m: Count, out: &mut [u8]) -> usize
-    ensures { λ r. ⌜ Written (encode (countMessage m)) (now (out .entry)) (now (out .exit)) r ⌝ }
+    ensures { λ r. ⌜ Wrote (countMessage m) (now (out .entry)) (now (out .exit)) r ⌝ }
 {
     let bytes = count_bytes(m);
     write_trimmed(COUNT_ID, &bytes, out)
 }
 
 pub fn write_ack(m: Ack, out: &mut [u8]) -> usize
-    ensures { λ r. ⌜ Written (encode (ackMessage m)) (now (out .entry)) (now (out .exit)) r ⌝ }
+    ensures { λ r. ⌜ Wrote (ackMessage m) (now (out .entry)) (now (out .exit)) r ⌝ }
 {
     let bytes = ack_bytes(m);
     write_trimmed(ACK_ID, &bytes, out)
 }
 
 pub fn write_request_int(m: RequestInt, out: &mut [u8]) -> usize
-    ensures { λ r. ⌜ Written (encode (requestIntMessage m)) (now (out .entry)) (now (out .exit)) r ⌝ }
+    ensures { λ r. ⌜ Wrote (requestIntMessage m) (now (out .entry)) (now (out .exit)) r ⌝ }
 {
     let bytes = request_int_bytes(m);
     write_trimmed(REQUEST_INT_ID, &bytes, out)
 }
 
 pub fn write_item_int(m: ItemInt, out: &mut [u8]) -> usize
-    ensures { λ r. ⌜ Written (encode (itemIntMessage m)) (now (out .entry)) (now (out .exit)) r ⌝ }
+    ensures { λ r. ⌜ Wrote (itemIntMessage m) (now (out .entry)) (now (out .exit)) r ⌝ }
 {
     let item = m.item;
     let bytes = item_bytes(m.system, m.component, m.current, item);
@@ -60,7 +59,7 @@ pub fn write_item_int(m: ItemInt, out: &mut [u8]) -> usize
 }
 
 pub fn write_statustext(m: Statustext, out: &mut [u8]) -> usize
-    ensures { λ r. ⌜ Written (encode (statustextMessage m)) (now (out .entry)) (now (out .exit)) r ⌝ }
+    ensures { λ r. ⌜ Wrote (statustextMessage m) (now (out .entry)) (now (out .exit)) r ⌝ }
 {
     let bytes = statustext_bytes(m);
     write_trimmed(STATUSTEXT_ID, &bytes, out)

@@ -1,7 +1,9 @@
--- `reply::payloads::ack_bytes` meets its contract: each field is its own bytes, in the layout's order.
+-- `reply::payloads::ack_bytes` meets its contract: each field is its own bytes, in the layout's order, and fits by its type.
 use mathlib.Core.List.{[], _++_}
 use Rattle.rules.specs.Layouts.{layoutOf, pack}
 use Rattle.rules.specs.Messages.{encode}
+use Rattle.rules.specs.Fitting.{Fits}
+use Rattle.wire.specs.Structs.{ackMessage}
 use Rattle.reply.proofs.Packing.{one-byte}
 use borrow.Author.Needs.{needs}
 use Rattle.reply.proofs.payloads.ack_bytes.Statement.{statement}
@@ -9,6 +11,11 @@ use Rattle.reply.proofs.payloads.ack_bytes.Tie as tie
 
 bytes32-requires : tie.Need-bytes32-requires
 bytes32-requires c κs = search needs
+
+-- what the struct's type says of its values
+fits : (c : tie.Start) → Fits (ackMessage (c .args .m))
+unfolding layoutOf
+fits c = search needs
 
 returns : tie.Need-returns
 unfolding encode layoutOf pack
@@ -18,7 +25,7 @@ returns c =
     let component = one-byte (a .m .component) (search needs) in
     let result = one-byte (a .m .result) (search needs) in
     let kind = one-byte (a .m .kind) (search needs) in
-    λ i. system i ++ (component i ++ (result i ++ (kind i ++ ((c .bytes32 .ensures) i ++ []))))
+    record { all = λ i. system i ++ (component i ++ (result i ++ (kind i ++ ((c .bytes32 .ensures) i ++ [])))); fits = fits (c .before) }
 
 pub ack-bytes-spec : {M : Type 1} → statement M
 ack-bytes-spec = tie.close (tie.spec bytes32-requires returns)

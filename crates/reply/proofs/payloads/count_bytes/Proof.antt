@@ -1,7 +1,9 @@
--- `reply::payloads::count_bytes` meets its contract: each field is its own bytes, in the layout's order.
+-- `reply::payloads::count_bytes` meets its contract: each field is its own bytes, in the layout's order, and fits by its type.
 use mathlib.Core.List.{[], _++_}
 use Rattle.rules.specs.Layouts.{layoutOf, pack}
 use Rattle.rules.specs.Messages.{encode}
+use Rattle.rules.specs.Fitting.{Fits}
+use Rattle.wire.specs.Structs.{countMessage}
 use Rattle.reply.proofs.Packing.{one-byte}
 use borrow.Author.Needs.{needs}
 use Rattle.reply.proofs.payloads.count_bytes.Statement.{statement}
@@ -13,6 +15,11 @@ bytes16-requires c κs = search needs
 bytes32-requires : tie.Need-bytes32-requires
 bytes32-requires c κs = search needs
 
+-- what the struct's type says of its values
+fits : (c : tie.Start) → Fits (countMessage (c .args .m))
+unfolding layoutOf
+fits c = search needs
+
 returns : tie.Need-returns
 unfolding encode layoutOf pack
 returns c =
@@ -20,7 +27,7 @@ returns c =
     let system = one-byte (a .m .system) (search needs) in
     let component = one-byte (a .m .component) (search needs) in
     let kind = one-byte (a .m .kind) (search needs) in
-    λ i. (c .before .bytes16 .ensures) i ++ (system i ++ (component i ++ (kind i ++ ((c .bytes32 .ensures) i ++ []))))
+    record { all = λ i. (c .before .bytes16 .ensures) i ++ (system i ++ (component i ++ (kind i ++ ((c .bytes32 .ensures) i ++ [])))); fits = fits (c .before .before) }
 
 pub count-bytes-spec : {M : Type 1} → statement M
 count-bytes-spec = tie.close (tie.spec bytes16-requires bytes32-requires returns)

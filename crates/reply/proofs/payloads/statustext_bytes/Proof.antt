@@ -11,7 +11,9 @@ use mir.Syntax.{w8}
 use Rattle.rules.specs.Payload.{bytesOf}
 use Rattle.rules.specs.Layouts.{u8, u16, layoutOf, pack}
 use Rattle.rules.specs.Messages.{encode}
-use Rattle.reply.proofs.Packing.{one-byte, pack-chars}
+use Rattle.rules.specs.Fitting as fitting
+use Rattle.wire.specs.Structs.{statustextMessage}
+use Rattle.reply.proofs.Packing.{one-byte, pack-chars, chars-fit}
 use borrow.Author.Needs.{needs}
 use Rattle.reply.proofs.payloads.statustext_bytes.Statement.{statement}
 use Rattle.reply.proofs.payloads.statustext_bytes.Tie as tie
@@ -47,11 +49,20 @@ small c i = search needs
 severity : (c : tie.Start) → c .args .m .severity < 256
 severity c = search needs
 
+id : (c : tie.Start) → c .args .m .id < 65536
+id c = search needs
+
 chunk : (c : tie.Start) → c .args .m .chunk < 256
 chunk c = search needs
 
 copy-requires : tie.Need-copy-requires
 copy-requires c κs = (omega (arith, long (c .before .before .before .before)), lit≤ tt)
+
+fits : (c : tie.Start) → fitting.Fits (statustextMessage (c .args .m))
+unfolding layoutOf
+fits c =
+    let m = c .args .m in
+    (severity c, chars-fit 50 1 (m .text) (m .id ∷ m .chunk ∷ []) (u16 51 ∷ u8 53 ∷ []) (long c) (λ i. small c i .fits) (id c, (chunk c, tt)))
 
 returns : tie.Need-returns
 unfolding encode layoutOf pack
@@ -60,12 +71,16 @@ returns c =
     let m = start .args .m in
     let first = one-byte (m .severity) (severity start) in
     let whole = take-all 50 (m .text) (omega (arith, long start)) in
-    let id = c .before .before .before .before .bytes16 .ensures in
+    let two = c .before .before .before .before .bytes16 .ensures in
     let last = one-byte (m .chunk) (chunk start) in
-    c .before .copy .ensures
-    ∙ (λ i. first i ++ (whole i ++ (id i ++ (last i ++ []))))
-    ∙ ap (λ (l : List ℕ). bytesOf 1 (m .severity) ++ l)
-    (sym (pack-chars 50 1 (m .text) (m .id ∷ m .chunk ∷ []) (u16 51 ∷ u8 53 ∷ []) (long start) (λ i. small start i .fits)))
+    record {
+      all =
+          c .before .copy .ensures
+          ∙ (λ i. first i ++ (whole i ++ (two i ++ (last i ++ []))))
+          ∙ ap (λ (l : List ℕ). bytesOf 1 (m .severity) ++ l)
+          (sym (pack-chars 50 1 (m .text) (m .id ∷ m .chunk ∷ []) (u16 51 ∷ u8 53 ∷ []) (long start) (λ i. small start i .fits)));
+      fits = fits start;
+    }
 
 pub statustext-bytes-spec : {M : Type 1} → statement M
 statustext-bytes-spec =

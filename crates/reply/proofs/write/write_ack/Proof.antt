@@ -1,8 +1,8 @@
--- `reply::write::write_ack` meets its contract: its bytes are the message's, and they are written trimmed.
+-- `reply::write::write_ack` meets its contract: its bytes are the message's, they are written trimmed, and they read back.
 use denote.Ref.{now}
 use Rattle.rules.specs.Layouts.{layoutOf}
 use Rattle.wire.specs.Structs.{ackMessage}
-use Rattle.reply.proofs.Packing.{ready, written-as}
+use Rattle.reply.proofs.Packing.{ready, wrote-as}
 use borrow.Author.Needs.{needs}
 use Rattle.reply.proofs.write.write_ack.Statement.{statement}
 use Rattle.reply.proofs.write.write_ack.Tie as tie
@@ -25,7 +25,7 @@ same-length c = search needs
 returns : tie.Need-returns
 returns c =
     let a = c .before .before .before .before .before .before .before .args in
-    written-as (ackMessage (a .m)) _ (now (a .out)) _ _ (c .before .before .before .before .before .ack-bytes .ensures) (c .before .before .write-trimmed .ensures)
+    wrote-as (ackMessage (a .m)) _ (now (a .out)) _ _ (c .before .before .before .before .before .ack-bytes .ensures) (c .before .before .write-trimmed .ensures)
 
 pub write-ack-spec : {M : Type 1} → statement M
 write-ack-spec =
