@@ -3,25 +3,26 @@ use Prim.Native.Nat.{ℕ, _≤_}
 use mathlib.Core.Path.{_≡_, refl}
 use mathlib.Core.List.{_++_}
 use native.Mathlib.Omega.{arith}
-use lib.ListN.{length, drop}
+use lib.ListN.{length, take, drop}
 use Rattle.rules.specs.Limits.{replied, replyBytesMin}
 use Rattle.rules.specs.Payload.{Bytes}
 use Rattle.rules.specs.Messages.{Message, idOf, encode}
 use Rattle.rules.specs.Laws.Layout.{encode-fits}
-use Rattle.rules.specs.Step.{Answer, says, outcomeOf, replyId, replyBytes}
+use Rattle.rules.specs.Step.{Answer, says, outcomeOf, replyId, replyBytes, ReadsBack}
 use Rattle.plan.specs.declared.State.{State}
-use Rattle.reply.specs.Written.{Trimmed, Written}
+use Rattle.reply.specs.Written.{Trimmed, Wrote}
 use Rattle.states.specs.Whole.{Done}
 use Rattle.answers.specs.declared.Served.{Served}
 use Rattle.answers.specs.declared.say.Said.{Said}
 
 -- the buffer held b and then holds b′: "Outcome 0 also returns the reply's id and length; every other returns 0 for both"; "buffer past
--- the reply unchanged"
+-- the reply unchanged"; and the reply reads back as what is said
 pub record Spoken (a : Answer) (b b′ : Bytes) (r : Said) : Type 0 where
   pub outcome : r .outcome ≡ outcomeOf a
   pub id : r .id ≡ replyId a
   pub len : r .len ≡ length (replyBytes a)
   pub buffer : b′ ≡ replyBytes a ++ drop (length (replyBytes a)) b
+  pub reads : ReadsBack a (r .id) (take (r .len) b′)
 
 -- the same with the state after the call
 pub record Answered (st : State) (a : Answer) (b b′ : Bytes) (r : Served) : Type 0 where
@@ -30,6 +31,7 @@ pub record Answered (st : State) (a : Answer) (b b′ : Bytes) (r : Served) : Ty
   pub id : r .id ≡ replyId a
   pub len : r .len ≡ length (replyBytes a)
   pub buffer : b′ ≡ replyBytes a ++ drop (length (replyBytes a)) b
+  pub reads : ReadsBack a (r .id) (take (r .len) b′)
 
 -- with the state and the answer that the code's step gives
 abbrev pub AnsweredBy : Done → (b b′ : Bytes) → Served → Type 0
@@ -49,15 +51,18 @@ abbrev pub served : State → (outcome id len : ℕ) → Served
 served st outcome id len = record { state = st; outcome = outcome; id = id; len = len }
 
 -- a message that was written into a reply buffer is the answer
-module _ (m : Message) (b b′ : Bytes) (n : ℕ) (enough : replyBytesMin ≤ length b) (w : Written (encode m) b b′ n) where
+module _ (m : Message) (b b′ : Bytes) (n : ℕ) (enough : replyBytesMin ≤ length b) (w : Wrote m b b′ n) where
+  room : length (encode m) ≤ length b
+  room = omega (arith, encode-fits m)
+
   trimmed : Trimmed (encode m) b b′ n
-  trimmed = w .fits (omega (arith, encode-fits m))
+  trimmed = w .written .fits room
 
   pub written-spoken : Spoken (says m) b b′ (said replied (idOf m) n)
-  written-spoken = record { outcome = refl; id = refl; len = trimmed .size; buffer = trimmed .held }
+  written-spoken = record { outcome = refl; id = refl; len = trimmed .size; buffer = trimmed .held; reads = w .reads room }
 
   pub written-answered : (st : State) → Answered st (says m) b b′ (served st replied (idOf m) n)
-  written-answered st = record { state = refl; outcome = refl; id = refl; len = trimmed .size; buffer = trimmed .held }
+  written-answered st = record { state = refl; outcome = refl; id = refl; len = trimmed .size; buffer = trimmed .held; reads = w .reads room }
 
 pub spoken-answered : (st : State) (a : Answer) (b b′ : Bytes) (s : Said) → Spoken a b b′ s → Answered st a b b′ (served st (s .outcome) (s .id) (s .len))
-spoken-answered st a b b′ s e = record { state = refl; outcome = e .outcome; id = e .id; len = e .len; buffer = e .buffer }
+spoken-answered st a b b′ s e = record { state = refl; outcome = e .outcome; id = e .id; len = e .len; buffer = e .buffer; reads = e .reads }

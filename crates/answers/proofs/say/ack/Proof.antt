@@ -4,15 +4,15 @@ use lib.ListN.{length}
 use borrow.Author.Needs.{needs}
 use Rattle.rules.specs.Limits.{replied, replyBytesMin}
 use Rattle.rules.specs.Payload.{Bytes}
-use Rattle.rules.specs.Messages.{Station, ack, encode}
+use Rattle.rules.specs.Messages.{Station, ack}
 use Rattle.rules.specs.Layouts.{ackId}
 use Rattle.rules.specs.Step.{says}
-use Rattle.reply.specs.Written.{Written}
+use Rattle.reply.specs.Written.{Wrote}
 use Rattle.answers.specs.Answered.{Spoken, said, written-spoken}
 use Rattle.answers.proofs.say.ack.Statement.{statement}
 use Rattle.answers.proofs.say.ack.Tie as tie
 
-acked : (to : Station) (result kind number : ℕ) (b b′ : Bytes) (n : ℕ) → replyBytesMin ≤ length b → Written (encode (ack to result kind number)) b b′ n
+acked : (to : Station) (result kind number : ℕ) (b b′ : Bytes) (n : ℕ) → replyBytesMin ≤ length b → Wrote (ack to result kind number) b b′ n
     → Spoken (says (ack to result kind number)) b b′ (said replied ackId n)
 acked to result kind number b b′ n enough w = written-spoken (ack to result kind number) b b′ n enough w
 

@@ -5,10 +5,10 @@ use borrow.Author.Needs.{needs}
 use lib.ListN.{length}
 use Rattle.rules.specs.Limits.{replied, replyBytesMin}
 use Rattle.rules.specs.Payload.{Bytes}
-use Rattle.rules.specs.Messages.{station, ack, requestInt, encode}
+use Rattle.rules.specs.Messages.{station, ack, requestInt}
 use Rattle.rules.specs.Layouts.{requestIntId}
 use Rattle.rules.specs.Step.{says}
-use Rattle.reply.specs.Written.{Written}
+use Rattle.reply.specs.Written.{Wrote}
 use Rattle.upload.specs.declared.Say.{Say}
 use Rattle.upload.specs.declared.Say.the-variants.{Ack, Ask}
 use Rattle.states.specs.Whole.{answerOf}
@@ -22,7 +22,7 @@ module _ (say : Say) (system component kind : ℕ) (b b′ : Bytes) where
       → Spoken (says (ack (station system component) result kind number)) b b′ r → Spoken (answerOf say (station system component) kind) b b′ r
   acked result number r e a = rw e a
 
-  asked : (seq n : ℕ) → replyBytesMin ≤ length b → say ≡ Ask seq → Written (encode (requestInt (station system component) seq kind)) b b′ n
+  asked : (seq n : ℕ) → replyBytesMin ≤ length b → say ≡ Ask seq → Wrote (requestInt (station system component) seq kind) b b′ n
       → Spoken (answerOf say (station system component) kind) b b′ (said replied requestIntId n)
   asked seq n enough e w = rw e (written-spoken (requestInt (station system component) seq kind) b b′ n enough w)
 

@@ -5,18 +5,18 @@ use borrow.Author.Needs.{needs}
 use lib.ListN.{length}
 use Rattle.rules.specs.Limits.{replied, replyBytesMin}
 use Rattle.rules.specs.Payload.{Bytes}
-use Rattle.rules.specs.Messages.{station, count, encode}
+use Rattle.rules.specs.Messages.{station, count}
 use Rattle.rules.specs.Layouts.{countId}
 use Rattle.plan.specs.declared.State.{State}
 use Rattle.plan.specs.View.{planOf}
-use Rattle.reply.specs.Written.{Written}
+use Rattle.reply.specs.Written.{Wrote}
 use Rattle.states.specs.Whole.{numberShown, listDone}
 use Rattle.answers.specs.Answered.{AnsweredBy, served, written-answered}
 use Rattle.answers.proofs.show.on_list.Statement.{statement}
 use Rattle.answers.proofs.show.on_list.Tie as tie
 
 listed : (st : State) (system component kind number : ℕ) (b b′ : Bytes) (n : ℕ) → replyBytesMin ≤ length b → number ≡ numberShown (planOf st kind)
-    → Written (encode (count (station system component) (planOf st kind .len) kind number)) b b′ n
+    → Wrote (count (station system component) (planOf st kind .len) kind number) b b′ n
     → (store : Bytes) → AnsweredBy (listDone st store (station system component) kind) b b′ (served st replied countId n)
 unfolding listDone
 listed st system component kind number b b′ n enough e w store =

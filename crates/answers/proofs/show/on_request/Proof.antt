@@ -9,7 +9,7 @@ use borrow.Author.Needs.{needs}
 use borrow.Author.Tests.{lt-ltb, le-ltb}
 use Rattle.rules.specs.Limits.{flight, rally, sizeOf, replyBytesMin, replied, invalidSequence}
 use Rattle.rules.specs.Payload.{Bytes}
-use Rattle.rules.specs.Messages.{station, ack, itemInt, encode, itemIn}
+use Rattle.rules.specs.Messages.{station, ack, itemInt, itemIn}
 use Rattle.rules.specs.Layouts.{itemIntId}
 use Rattle.rules.specs.Step.{says}
 use Rattle.item.specs.declared.Item.{Item}
@@ -18,7 +18,7 @@ use Rattle.plan.specs.declared.State.{State}
 use Rattle.plan.specs.Places.{itemAt}
 use Rattle.plan.specs.View.{planOf}
 use Rattle.plan.specs.Ranges.{stateRanged}
-use Rattle.reply.specs.Written.{Written}
+use Rattle.reply.specs.Written.{Wrote}
 use Rattle.states.specs.Whole.{requestDone}
 use Rattle.answers.specs.declared.say.Said.{Said}
 use Rattle.answers.specs.Answered.{Spoken, AnsweredBy, served, written-answered, spoken-answered}
@@ -33,7 +33,7 @@ module _ (st : State) (store : Bytes) (system component kind seq : ℕ) (b b′ 
   shown : (field : ℕ) (item : Item) (n : ℕ) → replyBytesMin ≤ length b → seq < planOf st kind .len
       → item ≡ itemFor (itemIn (itemAt store (planOf st kind .half) kind seq))
       → field ≡ cond (eqb kind flight && eqb seq (st .current)) 1 0
-      → Written (encode (itemInt (station system component) field (patterns item))) b b′ n
+      → Wrote (itemInt (station system component) field (patterns item)) b b′ n
       → AnsweredBy (requestDone st store (station system component) kind seq) b b′ (served st replied itemIntId n)
   unfolding requestDone
   shown field item n enough below fetched current w =

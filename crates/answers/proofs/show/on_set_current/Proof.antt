@@ -6,14 +6,14 @@ use borrow.Author.Needs.{needs}
 use borrow.Author.Tests.{lt-ltb, le-ltb}
 use Rattle.rules.specs.Limits.{flight, fence, rally, replyBytesMin, replied}
 use Rattle.rules.specs.Payload.{Bytes}
-use Rattle.rules.specs.Messages.{current, encode}
+use Rattle.rules.specs.Messages.{current}
 use Rattle.rules.specs.Layouts.{currentId, statustextId}
 use Rattle.rules.specs.Step.{refusalText}
 use Rattle.wire.specs.declared.structs.Statustext.{Statustext}
 use Rattle.wire.specs.Structs.{statustextMessage}
 use Rattle.plan.specs.declared.State.{State}
 use Rattle.plan.specs.View.{planOf}
-use Rattle.reply.specs.Written.{Written}
+use Rattle.reply.specs.Written.{Wrote}
 use Rattle.states.specs.Whole.{numberShown, chosenState, chooseDone}
 use Rattle.answers.specs.Answered.{AnsweredBy, served, written-answered}
 use Rattle.answers.proofs.show.on_set_current.Statement.{statement}
@@ -22,7 +22,7 @@ use Rattle.answers.proofs.show.on_set_current.Tie as tie
 module _ (st : State) (seq : ℕ) (b b′ : Bytes) (n : ℕ) (enough : replyBytesMin ≤ length b) where
   chosen-now : (chosen : State) (mission fences rallies : ℕ) → seq < planOf st flight .len → chosen ≡ chosenState st seq
       → mission ≡ numberShown (planOf st flight) → fences ≡ numberShown (planOf st fence) → rallies ≡ numberShown (planOf st rally)
-      → Written (encode (current seq (planOf st flight .len) 0 0 mission fences rallies)) b b′ n
+      → Wrote (current seq (planOf st flight .len) 0 0 mission fences rallies) b b′ n
       → (store : Bytes) → AnsweredBy (chooseDone st store seq) b b′ (served chosen replied currentId n)
   unfolding chooseDone
   chosen-now chosen mission fences rallies below chose em ef er w store =
@@ -30,7 +30,7 @@ module _ (st : State) (seq : ℕ) (b b′ : Bytes) (n : ℕ) (enough : replyByte
       (written-answered (current seq (planOf st flight .len) 0 0 mission fences rallies) b b′ n enough w chosen)
 
   not-there : (text : Statustext) → planOf st flight .len ≤ seq → statustextMessage text ≡ refusalText
-      → Written (encode (statustextMessage text)) b b′ n
+      → Wrote (statustextMessage text) b b′ n
       → (store : Bytes) → AnsweredBy (chooseDone st store seq) b b′ (served st replied statustextId n)
   unfolding chooseDone
   not-there text above says w store = rw (le-ltb _ _ above, sym says) (written-answered (statustextMessage text) b b′ n enough w st)
