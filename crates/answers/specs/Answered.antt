@@ -4,11 +4,11 @@ use mathlib.Core.Path.{_≡_, refl}
 use mathlib.Core.List.{_++_}
 use native.Mathlib.Omega.{arith}
 use lib.ListN.{length, take, drop}
-use Rattle.rules.specs.Limits.{replied, replyBytesMin}
+use Rattle.rules.specs.Limits.{replied, noReply, replyBytesMin}
 use Rattle.rules.specs.Payload.{Bytes}
 use Rattle.rules.specs.Messages.{Message, idOf, encode}
 use Rattle.rules.specs.Laws.Layout.{encode-fits}
-use Rattle.rules.specs.Step.{Answer, says, outcomeOf, replyId, replyBytes, ReadsBack}
+use Rattle.rules.specs.Step.{Answer, silent, says, outcomeOf, replyId, replyBytes, ReadsBack}
 use Rattle.plan.specs.declared.State.{State}
 use Rattle.reply.specs.Written.{Trimmed, Wrote}
 use Rattle.states.specs.Whole.{Done}
@@ -49,6 +49,10 @@ said outcome id len = record { outcome = outcome; id = id; len = len }
 
 abbrev pub served : State → (outcome id len : ℕ) → Served
 served st outcome id len = record { state = st; outcome = outcome; id = id; len = len }
+
+-- where nothing is said, nothing is written
+pub spoken-silent : (b : Bytes) → Spoken silent b b (said noReply 0 0)
+spoken-silent b = record { outcome = refl; id = refl; len = refl; buffer = refl; reads = tt }
 
 -- a message that was written into a reply buffer is the answer
 module _ (m : Message) (b b′ : Bytes) (n : ℕ) (enough : replyBytesMin ≤ length b) (w : Wrote m b b′ n) where

@@ -27,7 +27,8 @@ use Rattle.next_command.specs.Advanced as moved
 use Rattle.refine.specs.Steps.{message-steps, timer-steps, done-steps}
 use Rattle.refine.specs.Turned.{timer-agrees}
 use Rattle.refine.specs.Messages.{message-agrees}
-use Rattle.service.specs.Calls.{Serves, served, advanced, Gives, steps-serve}
+use Rattle.refine.specs.Serving.{Gives, steps-serve}
+use Rattle.service.specs.Calls.{Serves, served, advanced}
 use Rattle.service.specs.declared.Advanced.{Advanced}
 
 -- the ranges, by the test's answer
@@ -36,7 +37,7 @@ ranged-is st s ranged e t = sym e ∙ t
 
 answered-gives : (d : Done) (s′ b b′ : Bytes) (r : Served) → AnsweredBy d b b′ r → s′ ≡ d .store → commandIn (d .answer) ≡ rules.stuck → Gives d s′ b b′ (served r)
 answered-gives d s′ b b′ r a store stuck =
-    record { state = a .state; store = store; outcome = a .outcome; id = a .id; len = a .len; command = sym stuck; buffer = a .buffer }
+    record { state = a .state; store = store; outcome = a .outcome; id = a .id; len = a .len; command = sym stuck; buffer = a .buffer; reads = a .reads }
 
 -- ---- message
 
@@ -114,4 +115,4 @@ module _ (st : State) (s : Bytes) (ranged : Bool) (outcome : ℕ)
       let c = done (length s) in
       steps-serve c st s s [] [] d (advanced (record { state = r .state; outcome = noReply; command = r .command }))
       (done-steps c st s three done-ranged (r .state) (a .shown) (a .plans) (ap (λ (t : Bool). heard t c) (sym in-range) ∙ finished .says))
-      (record { state = refl; store = refl; outcome = refl; id = refl; len = refl; command = a .answer; buffer = refl })
+      (record { state = refl; store = refl; outcome = refl; id = refl; len = refl; command = a .answer; buffer = refl; reads = tt })

@@ -20,7 +20,7 @@ use Rattle.upload.specs.declared.Say.the-variants.{Silent}
 use Rattle.upload.specs.declared.Turned.{Turned}
 use Rattle.upload.specs.Turns.{ended, keeps, ownUpload, ackTurned}
 use Rattle.states.specs.Whole.{gives, turnedState, knownDone}
-use Rattle.answers.specs.Answered.{AnsweredBy, served}
+use Rattle.answers.specs.Answered.{AnsweredBy, said, served, spoken-silent, spoken-answered}
 use Rattle.messages.proofs.on_ack.Statement.{statement}
 use Rattle.messages.proofs.on_ack.Tie as tie
 
@@ -36,7 +36,7 @@ says-nothing p from result = go (ownUpload from (p .upload) && not (eqb result a
     go false = refl
 
 silent-answered : (st : State) (b : Bytes) → AnsweredBy (gives st b silent) b b (served st noReply 0 0)
-silent-answered st b = record { state = refl; outcome = refl; id = refl; len = refl; buffer = refl }
+silent-answered st b = spoken-answered st silent b b (said noReply 0 0) (spoken-silent b)
 
 module _ (st : State) (kind result system component : ℕ) where
   acknowledged : (turned : Turned) (next : State) → turned ≡ ackTurned (planOf st kind) (station system component) result → next ≡ turnedState st kind turned

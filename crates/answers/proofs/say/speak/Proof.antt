@@ -3,17 +3,17 @@ use Prim.Native.Nat.{ℕ, _≤_}
 use mathlib.Core.Path.{_≡_}
 use borrow.Author.Needs.{needs}
 use lib.ListN.{length}
-use Rattle.rules.specs.Limits.{replied, replyBytesMin}
+use Rattle.rules.specs.Limits.{replied, noReply, replyBytesMin}
 use Rattle.rules.specs.Payload.{Bytes}
 use Rattle.rules.specs.Messages.{station, ack, requestInt}
 use Rattle.rules.specs.Layouts.{requestIntId}
 use Rattle.rules.specs.Step.{says}
 use Rattle.reply.specs.Written.{Wrote}
 use Rattle.upload.specs.declared.Say.{Say}
-use Rattle.upload.specs.declared.Say.the-variants.{Ack, Ask}
+use Rattle.upload.specs.declared.Say.the-variants.{Silent, Ack, Ask}
 use Rattle.states.specs.Whole.{answerOf}
 use Rattle.answers.specs.declared.say.Said.{Said}
-use Rattle.answers.specs.Answered.{Spoken, said, written-spoken}
+use Rattle.answers.specs.Answered.{Spoken, said, spoken-silent, written-spoken}
 use Rattle.answers.proofs.say.speak.Statement.{statement}
 use Rattle.answers.proofs.say.speak.Tie as tie
 
@@ -25,6 +25,9 @@ module _ (say : Say) (system component kind : ℕ) (b b′ : Bytes) where
   asked : (seq n : ℕ) → replyBytesMin ≤ length b → say ≡ Ask seq → Wrote (requestInt (station system component) seq kind) b b′ n
       → Spoken (answerOf say (station system component) kind) b b′ (said replied requestIntId n)
   asked seq n enough e w = rw e (written-spoken (requestInt (station system component) seq kind) b b′ n enough w)
+
+quiet : (say : Say) (system component kind : ℕ) (b : Bytes) → say ≡ Silent → Spoken (answerOf say (station system component) kind) b b (said noReply 0 0)
+quiet say system component kind b e = rw e (spoken-silent b)
 
 enum-told : tie.Need-enum-told
 enum-told c = search needs
@@ -42,7 +45,7 @@ write-request-int-requires : tie.Need-write-request-int-requires
 write-request-int-requires c κs = search needs
 
 returns : tie.Need-returns
-returns c = search needs
+returns c = search (quiet, needs)
 
 same-length : tie.Need-same-length
 same-length c = search needs
