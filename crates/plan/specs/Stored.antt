@@ -3,7 +3,6 @@ use mathlib.Core.Path.{_≡_, refl, _∙_, ap}
 use mathlib.Core.List.{List, [], _∷_, _++_}
 use mathlib.Core.Bool.{Bool, true, false, cond}
 use Prim.Native.Nat.{ℕ, zero, suc, _+_, _*_, _≤_}
-use native.Mathlib.Numerals.{add-two}
 use native.Mathlib.Omega.{arith}
 use lib.ListN.{getD}
 use lib.Dec.{eqb}
@@ -31,11 +30,6 @@ number-part d at n (suc size) i within =
     ap (λ (b : ℕ). b + byteValues * numberAt size (suc i) (part d at n)) (getD-part d at n i (omega arith))
     ∙ ap (λ (k : ℕ). getD d (at + i) 0 + byteValues * k) (number-part d at n size (suc i) (omega arith))
     ∙ ap (λ (k : ℕ). getD d (at + i) 0 + byteValues * numberAt size k d) (omega arith)
-
--- a number of four bytes by its two halves
-pub number-halves : (at : ℕ) (d : Bytes) → numberAt 4 at d ≡ numberAt 2 at d + numberAt 2 (at + 2) d * (byteValues * byteValues)
-unfolding numberAt
-number-halves at d = rw (add-two at) (omega arith)
 
 -- ---- counting items by their command
 

@@ -2,8 +2,7 @@
 ghost use mathlib.Core.Path.{_≡_};
 ghost use Prim.Native.Nat.{_+_, _≤_, _<_};
 ghost use lib.ListN.{length};
-ghost use Rattle.rules.specs.Limits.{rally, sizeOf, byteValues, itemBytes, storeBytes};
-ghost use Rattle.rules.specs.Payload.{numberAt};
+ghost use Rattle.rules.specs.Limits.{rally, sizeOf, itemBytes, storeBytes};
 ghost use Rattle.rules.specs.Messages.{itemIn};
 ghost use Rattle.rules.specs.Items.{jumpsAmong};
 ghost use Rattle.plan.specs.Part.{part, put};
@@ -28,40 +27,20 @@ pub fn put_item(store: &mut [u8], at: usize, bytes: [u8; 38])
     }
 }
 
-fn wide(byte: u8) -> u16
-    ensures { λ r. ⌜ (r ≡ byte) × (r < byteValues) ⌝ }
-{
-    byte as u16
-}
-
-fn wider(half: u16) -> u32
-    ensures { λ r. ⌜ r ≡ half ⌝ }
-{
-    half as u32
-}
-
-// The number in the two bytes from `at`, lowest first.
-fn pair_at(store: &[u8], at: usize) -> u16
-    requires { ⌜ at + 1 < length (now store) ⌝ }
-    ensures { λ r. ⌜ r ≡ numberAt 2 at (now (store .entry)) ⌝ }
-{
-    wide(store[at]) + wide(store[at + 1]) * 256
-}
-
 // The command of the item that begins at `at`.
 pub fn command_at(store: &[u8], at: usize) -> u16
-    requires { ⌜ at + itemBytes ≤ length (now store) ⌝ }
+    requires { ⌜ at + itemBytes ≤ storeBytes ⌝ }
     ensures { λ r. ⌜ r ≡ itemIn (part (now (store .entry)) at itemBytes) .command ⌝ }
 {
-    pair_at(store, at + COMMAND)
+    fields::u16_at(store, at + COMMAND)
 }
 
 // The bit pattern of its param 1, the first field.
 pub fn param1_at(store: &[u8], at: usize) -> u32
-    requires { ⌜ at + itemBytes ≤ length (now store) ⌝ }
+    requires { ⌜ at + itemBytes ≤ storeBytes ⌝ }
     ensures { λ r. ⌜ r ≡ itemIn (part (now (store .entry)) at itemBytes) .param1 ⌝ }
 {
-    wider(pair_at(store, at)) + wider(pair_at(store, at + 2)) * 65536
+    fields::u32_at(store, at)
 }
 
 // How many of the first n items of a kind in a half have a command.

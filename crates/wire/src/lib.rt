@@ -1,6 +1,5 @@
 // MAVLink payloads: the constant table of messages, a struct for each message read or written here, and reading with zero
 // filling. Writing is left to the crate reply, and what a message does to others.
-mod fields;
 mod read;
 mod structs;
 mod table;

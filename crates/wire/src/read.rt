@@ -4,9 +4,6 @@ ghost use Rattle.rules.specs.Layouts.{setCurrentId, requestListId, countId, cle
 ghost use Rattle.rules.specs.Messages.{decode, itemIn};
 ghost use Rattle.wire.specs.Structs.{setCurrentMessage, requestListMessage, countMessage, clearAllMessage, ackMessage, requestIntMessage, itemIntMessage};
 ghost use Rattle.item.specs.Patterns.{itemFor, patterns};
-use crate::fields::byte_at;
-use crate::fields::u16_at;
-use crate::fields::u32_at;
 use crate::structs::Ack;
 use crate::structs::ClearAll;
 use crate::structs::Count;
@@ -22,6 +19,9 @@ use crate::table::REQUEST_INT_ID;
 use crate::table::REQUEST_LIST_ID;
 use crate::table::SET_CURRENT_ID;
 use crate::table::own_part;
+use fields::byte_at;
+use fields::u16_at;
+use fields::u32_at;
 use item::Item;
 
 pub fn read_set_current(p: &[u8]) -> SetCurrent

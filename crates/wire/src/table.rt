@@ -6,7 +6,7 @@ ghost use Rattle.rules.specs.Payload.{Bytes};
 ghost use Rattle.rules.specs.Layouts.{layoutOf};
 ghost use Rattle.rules.specs.Messages.{decode};
 ghost use Rattle.wire.specs.Table.{rowOf, isRead, headOf};
-use crate::fields::byte_at;
+use fields::byte_at;
 
 pub const SET_CURRENT_ID: u32 = 41;
 

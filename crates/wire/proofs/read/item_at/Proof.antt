@@ -4,7 +4,7 @@ use denote.Ref.{now}
 use Rattle.rules.specs.Layouts.{layoutOf, values}
 use Rattle.rules.specs.Messages.{itemIn}
 use Rattle.item.specs.Patterns.{itemFor}
-use Rattle.wire.proofs.Numbers.{as-number}
+use Rattle.fields.specs.Numbers.{as-number}
 use borrow.Author.Needs.{needs}
 use Rattle.wire.proofs.read.item_at.Statement.{statement}
 use Rattle.wire.proofs.read.item_at.Tie as tie

@@ -5,7 +5,7 @@ use denote.Ref.{now}
 use Rattle.rules.specs.Layouts.{layoutOf, values, itemIntId}
 use Rattle.rules.specs.Messages.{station, itemInt, messageOf, decode, itemIn}
 use Rattle.item.specs.Patterns.{patterns-of, values-of}
-use Rattle.wire.proofs.Numbers.{as-number}
+use Rattle.fields.specs.Numbers.{as-number}
 use Rattle.wire.proofs.Rows.{decode-own}
 use borrow.Author.Needs.{needs}
 use Rattle.wire.proofs.read.read_item_int.Statement.{statement}

@@ -3,7 +3,7 @@ use mathlib.Core.Path.{ap, _∙_}
 use denote.Ref.{now}
 use Rattle.rules.specs.Layouts.{layoutOf, values, setCurrentId}
 use Rattle.rules.specs.Messages.{station, setCurrent, messageOf, decode}
-use Rattle.wire.proofs.Numbers.{as-number}
+use Rattle.fields.specs.Numbers.{as-number}
 use Rattle.wire.proofs.Rows.{decode-own}
 use borrow.Author.Needs.{needs}
 use Rattle.wire.proofs.read.read_set_current.Statement.{statement}

@@ -1,8 +1,8 @@
--- `wire::fields::byte_at` meets its contract: past the end a list gives its default.
+-- `fields::byte_at` meets its contract: past the end a list gives its default.
 use borrow.Author.Needs.{needs}
-use Rattle.wire.proofs.Numbers.{byte-missing}
-use Rattle.wire.proofs.fields.byte_at.Statement.{statement}
-use Rattle.wire.proofs.fields.byte_at.Tie as tie
+use Rattle.fields.specs.Numbers.{byte-missing}
+use Rattle.fields.proofs.byte_at.Statement.{statement}
+use Rattle.fields.proofs.byte_at.Tie as tie
 
 shared-slice-read-result : tie.Need-shared-slice-read-result
 shared-slice-read-result c = search needs

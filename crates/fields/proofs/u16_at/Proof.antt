@@ -1,10 +1,10 @@
--- `wire::fields::u16_at` meets its contract: a number of two bytes is its low byte and 256 times its high one.
+-- `fields::u16_at` meets its contract: a number of two bytes is its low byte and 256 times its high one.
 use native.Mathlib.Omega.{arith}
 use denote.Ref.{now}
-use Rattle.wire.proofs.Numbers.{number-two}
+use Rattle.fields.specs.Numbers.{number-two}
 use borrow.Author.Needs.{needs}
-use Rattle.wire.proofs.fields.u16_at.Statement.{statement}
-use Rattle.wire.proofs.fields.u16_at.Tie as tie
+use Rattle.fields.proofs.u16_at.Statement.{statement}
+use Rattle.fields.proofs.u16_at.Tie as tie
 
 byte-at-requires : tie.Need-byte-at-requires
 byte-at-requires c κs = search needs

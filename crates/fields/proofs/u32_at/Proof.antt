@@ -1,10 +1,10 @@
--- `wire::fields::u32_at` meets its contract: a number of four bytes is its low half and 65536 times its high one.
+-- `fields::u32_at` meets its contract: a number of four bytes is its low half and 65536 times its high one.
 use native.Mathlib.Omega.{arith}
 use denote.Ref.{now}
-use Rattle.wire.proofs.Numbers.{number-four}
+use Rattle.fields.specs.Numbers.{number-four}
 use borrow.Author.Needs.{needs}
-use Rattle.wire.proofs.fields.u32_at.Statement.{statement}
-use Rattle.wire.proofs.fields.u32_at.Tie as tie
+use Rattle.fields.proofs.u32_at.Statement.{statement}
+use Rattle.fields.proofs.u32_at.Tie as tie
 
 u16-at-requires : tie.Need-u16-at-requires
 u16-at-requires c κs = search needs

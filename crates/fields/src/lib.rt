@@ -1,8 +1,8 @@
-// The fields of a payload of any length, little-endian: missing bytes are zero.
+// Numbers in bytes of any length, a payload's or the store's, little-endian: missing bytes are zero.
 ghost use mathlib.Core.Path.{_≡_};
 ghost use Prim.Native.Nat.{_+_, _≤_};
 ghost use lib.ListN.{getD};
-ghost use Rattle.rules.specs.Limits.{itemBytes};
+ghost use Rattle.rules.specs.Limits.{storeBytes};
 ghost use Rattle.rules.specs.Payload.{numberAt};
 
 // The byte at an offset.
@@ -24,9 +24,9 @@ fn wide32(n: u16) -> u32
     n as u32
 }
 
-// The 16-bit number at an offset, which is within the longest message that is read.
+// The 16-bit number at an offset, which is within the store's length.
 pub fn u16_at(p: &[u8], at: usize) -> u16
-    requires { ⌜ at ≤ itemBytes ⌝ }
+    requires { ⌜ at + 2 ≤ storeBytes ⌝ }
     ensures { λ r. ⌜ r ≡ numberAt 2 at (now (p .entry)) ⌝ }
 {
     wide16(byte_at(p, at)) + 256 * wide16(byte_at(p, at + 1))
@@ -34,7 +34,7 @@ pub fn u16_at(p: &[u8], at: usize) -> u16
 
 // The 32-bit number at an offset, also the bit pattern of a float or a signed number.
 pub fn u32_at(p: &[u8], at: usize) -> u32
-    requires { ⌜ at + 2 ≤ itemBytes ⌝ }
+    requires { ⌜ at + 4 ≤ storeBytes ⌝ }
     ensures { λ r. ⌜ r ≡ numberAt 4 at (now (p .entry)) ⌝ }
 {
     wide32(u16_at(p, at)) + 65536 * wide32(u16_at(p, at + 2))

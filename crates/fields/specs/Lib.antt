@@ -1,0 +1,2 @@
+-- What the proofs over numbers in bytes cite.
+pub mod Numbers
