@@ -1,21 +1,25 @@
 -- Cases: what the rules give beside what document 01 says, and the calls and items that the cases are made of.
 pub mod Starred
 pub mod Readings
+pub mod Guards
+pub mod Bounds
 use Prim.Native.Nat.{ℕ}
 use mathlib.Core.Path.{_≡_}
-use mathlib.Core.List.{List, map}
+use mathlib.Core.List.{List, [], _∷_, map}
+use mathlib.Core.Bool.{true, false}
+use lib.ListN.{replicate}
 use lib.Ieee.{ofBits}
 use Rattle.rules.specs.Limits.{storeBytes, replyBytesMin, flight, fence}
 use Rattle.rules.specs.Payload.{Bytes, numberAt, bytesOf, significant, trim}
 use Rattle.rules.specs.Layouts.{setCurrentId, requestListId, countId, clearAllId, ackId, requestIntId, itemIntId, layoutOf, values, pack}
 use Rattle.rules.specs.Messages.{Station, station, Item, Message, setCurrent, requestList, count, clearAll, ack, requestInt, itemInt, encode, messageOf, decode, itemOf, itemIn}
-use Rattle.rules.specs.Model.{Model, Shown, Upload, nextNumber, shownNumber, elapsed, wholeOk, isOthers, isOwn, withPlan, put, emptied, empty, choose, uploadInRange, inRange}
+use Rattle.rules.specs.Model.{Model, Shown, Plan, Upload, idle, fresh, nextNumber, shownNumber, elapsed, wholeOk, isOthers, isOwn, withPlan, put, emptied, empty, choose, uploadInRange, inRange}
 use Rattle.rules.specs.NextCommand.{Command, commandOf, passedOver, runsAfter, meets, settle, search, next, reach, advance}
 use Rattle.rules.specs.Calls.{Call, message, timer, done, forUs, heardMessage, heard}
 use Rattle.rules.specs.Values.{signed, finite, atLeastZero, aboveZero, zeroTo, wholeOf, wholeFrom, wholeNumber}
 use Rattle.rules.specs.Items.{targetIn, paramOk, frameOk, jumpsAmong, placeFault, faultIn, faultAmong, fault}
 use Rattle.rules.specs.Fence.{runWith, readItem, readItems, returnPoints, fenceOk}
-use Rattle.rules.specs.Step.{Answer, step, run, onCount, takes, onItem, onAck, onClear, onList, onRequest, onSetCurrent, onKnown, kindOk, onMessage, onTimer, act, answers}
+use Rattle.rules.specs.Step.{Answer, says, commandIn, step, run, onCount, takes, onItem, onAck, onClear, onList, onRequest, onSetCurrent, onKnown, kindOk, onMessage, onTimer, act, answers}
 
 -- what a proof by computation unfolds: the rules, whole
 unfoldable pub computing : Unit {0}
@@ -24,8 +28,10 @@ computing = tt
 
 pub data Value : Type 0 where
   number : ℕ → Value
+  numbers : List ℕ → Value
   bytes : Bytes → Value
   answer : Answer → Value
+  replies : List Answer → Value
   commands : List Command → Value
   shown : Shown → Value
   upload : Upload → Value
@@ -89,7 +95,11 @@ finishes = done storeBytes
 abbrev pub after : Model → List Call → Call → Answer
 after m calls c = step (run m calls) c .answer
 
--- ---- items, in frame 3
+-- the answers to a list of "command done" calls
+abbrev pub ordered : Model → List Call → List Command
+ordered m calls = map commandIn (answers m calls)
+
+-- ---- items
 
 -- the patterns of some floats
 abbrev pub f1 : ℕ
@@ -113,22 +123,27 @@ fMinusZero = 0x80000000
 abbrev pub fMinusOne : ℕ
 fMinusOne = 0xbf800000
 
-abbrev pub itemAs : (kind command seq param1 param2 x : ℕ) → Item
-itemAs kind command seq param1 param2 x =
+-- all that is judged of an item
+abbrev pub itemWith : (kind command seq frame param1 param2 x y z : ℕ) → Item
+itemWith kind command seq frame param1 param2 x y z =
     record {
       param1 = param1;
       param2 = param2;
       param3 = 0;
       param4 = 0;
       x = x;
-      y = 0;
-      z = 0;
+      y = y;
+      z = z;
       seq = seq;
       command = command;
-      frame = 3;
+      frame = frame;
       autocontinue = 1;
       kind = kind;
     }
+
+-- in frame 3, with y and z 0
+abbrev pub itemAs : (kind command seq param1 param2 x : ℕ) → Item
+itemAs kind command seq param1 param2 x = itemWith kind command seq 3 param1 param2 x 0 0
 
 abbrev pub waypoint : (seq : ℕ) → Item
 waypoint seq = itemAs flight 16 seq 0 0 0
@@ -147,3 +162,38 @@ vertex seq m = itemAs fence 5001 seq m 0 0
 
 abbrev pub circle : (seq : ℕ) → Item
 circle seq = itemAs fence 5003 seq f1 0 0
+
+-- ---- models
+
+abbrev pub planWith : List Item → ℕ → Plan
+planWith items n = record { items = map itemOf items; number = n }
+
+-- what is shown with these plans; nothing begun
+abbrev pub plansOf : Plan → Plan → Plan → Shown
+plansOf a b c = record { plans = a ∷ b ∷ c ∷ []; current = 0; begun = false; counts = replicate 15 0 }
+
+-- no upload runs
+abbrev pub resting : Shown → Model
+resting s = record { shown = s; uploads = idle ∷ idle ∷ idle ∷ [] }
+
+-- the fresh model, but for the flight plan and its number
+abbrev pub withFlight : List Item → ℕ → Model
+withFlight items n = resting (plansOf (planWith items n) (planWith [] 0) (planWith [] 0))
+
+-- two waypoints are stored, the first is begun, and one jump count is not 0
+abbrev pub flying : Model
+flying =
+    resting (record { plans = planWith (waypoint 0 ∷ waypoint 1 ∷ []) 3 ∷ planWith [] 0 ∷ planWith [] 0 ∷ []; current = 0; begun = true; counts = 9 ∷ replicate 14 0 })
+
+-- ---- uploads and their answers
+
+-- the tablet announces n items of a kind and sends these
+abbrev pub uploads : (kind n : ℕ) → List Item → List Call
+uploads kind n items = sendsCount tablet 0 kind n ∷ map (λ (i : Item). sendsItem tablet 0 i) items
+
+-- the tablet announces one item of a kind: the answer to it
+abbrev pub judges : (kind : ℕ) → Item → Answer
+judges kind item = after fresh (uploads kind 1 []) (sendsItem tablet 0 item)
+
+abbrev pub verdict : (result kind : ℕ) → Answer
+verdict result kind = says (ack tablet result kind 0)

@@ -6,8 +6,8 @@
 // d > OUTCOME CASE ITEM VALUE PULSE COUNT COUNT                    "command done"; the counts are those of the first two jumps after it
 // A case is 0 Fly to 5 Servo, 6 Finished, 7 Stuck; its value is a bit pattern, or a servo's channel. Numbers left out at the end are 0.
 // Ops that set what later lines use: f (a fresh start), o (own numbers), s (the sender's), c (the clock), l (how much of store and
-// reply buffer is lent), and as a host might write them p (the current item) and w (OFFSET HEX: bytes of the store). A line that
-// begins with # says what the next ones are about.
+// reply buffer is lent), and as a host might write them p (the current item), r (KIND REPEATS: a running upload's repeats) and
+// w (OFFSET HEX: bytes of the store). A line that begins with # says what the next ones are about.
 use crate::calls;
 use crate::calls::Host;
 use crate::items;
@@ -19,7 +19,9 @@ use crate::text::next_bytes;
 use crate::text::next_number;
 use crate::text::seven_numbers;
 use answers::Served;
+use plan::Plan;
 use plan::State;
+use plan::Upload;
 
 struct World {
     state: State,
@@ -62,7 +64,44 @@ fn set_host(op: u8, host: Host, a: u32, b: u32) -> Host {
     }
 }
 
-fn set_state(op: u8, state: State, a: u32) -> State {
+// A running upload asked again so often; one that does not run has no repeats.
+fn repeated(upload: Upload, repeats: u8) -> Upload {
+    match upload {
+        Upload::Running(run) => {
+            let mut again = run;
+            again.repeats = repeats;
+            Upload::Running(again)
+        }
+        Upload::Idle => Upload::Idle,
+    }
+}
+
+fn repeated_in(plan: Plan, repeats: u8) -> Plan {
+    Plan {
+        len: plan.len,
+        half: plan.half,
+        number: plan.number,
+        upload: repeated(plan.upload, repeats),
+    }
+}
+
+fn set_repeats(state: State, kind: usize, repeats: u8) -> State {
+    if 3 <= kind {
+        return state;
+    }
+    let mut plans = state.plans;
+    let plan = repeated_in(plans[kind], repeats);
+    plans[kind] = plan;
+    let counts = state.counts;
+    State {
+        plans,
+        current: state.current,
+        begun: state.begun,
+        counts,
+    }
+}
+
+fn set_state(op: u8, state: State, a: u32, b: u32) -> State {
     let mut s = state;
     match op {
         b'f' => service::fresh(),
@@ -70,6 +109,7 @@ fn set_state(op: u8, state: State, a: u32) -> State {
             s.current = (a % 65536) as u16;
             s
         }
+        b'r' => set_repeats(s, a as usize, byte(b)),
         _ => s,
     }
 }
@@ -180,7 +220,7 @@ fn set(op: u8, text: &[u8], at: usize, w: World) -> World {
     let h = w.host;
     let s = w.state;
     let host = set_host(op, h, a.value, b.value);
-    let state = set_state(op, s, a.value);
+    let state = set_state(op, s, a.value, b.value);
     World { state, host }
 }
 

@@ -2,34 +2,19 @@
 -- and one upload among other traffic. One table, and one statement: every case holds.
 use Prim.Native.Nat.{ℕ, _+_, _^_}
 use mathlib.Core.Path.{refl}
-use mathlib.Core.List.{List, [], _∷_, map}
+use mathlib.Core.List.{List, [], _∷_}
 use mathlib.Core.Bool.{true, false}
 use lib.ListN.{replicate}
 use Rattle.rules.specs.Limits.{flight, fence, rally, everyKind, storeBytes, replyBytesMin}
 use Rattle.rules.specs.Payload.{Bytes, trim}
 use Rattle.rules.specs.Layouts.{currentId, countId, clearAllId, ackId, requestIntId, statustextId}
-use Rattle.rules.specs.Messages.{station, Item, count, ack, current, requestInt, itemInt, itemOf}
-use Rattle.rules.specs.Model.{Model, Shown, Plan, Upload, idle, running, fresh, uploadOf, elapsed}
+use Rattle.rules.specs.Messages.{station, count, ack, current, requestInt, itemInt, itemOf}
+use Rattle.rules.specs.Model.{Model, Upload, idle, running, fresh, uploadOf, elapsed}
 use Rattle.rules.specs.Calls.{Call, message, timer, done}
-use Rattle.rules.specs.Step.{Answer, refused, silent, says, refusalText, run, replyBytes}
-use Rattle.rules.specs.Cases.{computing, Case, number, bytes, answer, shown, upload, model, _is_, Hold, vehicle, tablet, neighbour, sends, sendsCount, sendsItem, sendsAck, sendsClear, asksForList, asksForItem, setsCurrent, ticks, finishes, after, f2, f3, f4, fNaN, fMinusZero, fMinusOne, itemAs, waypoint, jumpTo, vertex, circle}
+use Rattle.rules.specs.Step.{refused, silent, says, refusalText, run, replyBytes}
+use Rattle.rules.specs.Cases.{computing, Case, number, bytes, answer, shown, upload, model, _is_, Hold, vehicle, tablet, neighbour, sends, sendsCount, sendsItem, sendsAck, sendsClear, asksForList, asksForItem, setsCurrent, ticks, finishes, after, f2, f3, f4, fNaN, fMinusZero, fMinusOne, itemAs, waypoint, jumpTo, vertex, circle, planWith, plansOf, flying, uploads, judges, verdict}
 
 -- ---- what the cases start from
-
-abbrev planWith : List Item → ℕ → Plan
-planWith items n = record { items = map itemOf items; number = n }
-
--- what is shown with these plans; nothing begun
-abbrev plansOf : Plan → Plan → Plan → Shown
-plansOf a b c = record { plans = a ∷ b ∷ c ∷ []; current = 0; begun = false; counts = replicate 15 0 }
-
--- two waypoints are stored, the first is begun, and one jump count is not 0
-abbrev flying : Model
-flying =
-    record {
-      shown = record { plans = planWith (waypoint 0 ∷ waypoint 1 ∷ []) 3 ∷ planWith [] 0 ∷ planWith [] 0 ∷ []; current = 0; begun = true; counts = 9 ∷ replicate 14 0 };
-      uploads = idle ∷ idle ∷ idle ∷ [];
-    }
 
 -- the tablet uploads two fence items, the first is taken
 abbrev fencingRun : (started repeats : ℕ) → Upload
@@ -41,17 +26,6 @@ fencingAt started repeats = record { shown = flying .shown; uploads = idle ∷ f
 -- as two calls of the tablet leave it
 abbrev fencing : Model
 fencing = fencingAt 120 0
-
--- the tablet announces n flight items and sends these
-abbrev uploads : (n : ℕ) → List Item → List Call
-uploads n items = sendsCount tablet 0 flight n ∷ map (λ (i : Item). sendsItem tablet 0 i) items
-
--- the tablet announces one item of a kind: the answer to it
-abbrev judges : (kind : ℕ) → Item → Answer
-judges kind item = after fresh (sendsCount tablet 0 kind 1 ∷ []) (sendsItem tablet 0 item)
-
-abbrev verdict : (result kind : ℕ) → Answer
-verdict result kind = says (ack tablet result kind 0)
 
 -- a number of the state is out of its range: one jump count
 abbrev unranged : Model
@@ -172,18 +146,18 @@ readings =
     ∷ (answer (after fencing [] (sendsItem tablet 0 (vertex 1 f3))) is answer (verdict 5 1))
     -- minus zero is at least 0, is whole and is 0, and is not above 0; a subnormal is above 0; -2147483648 is outside
     ∷ (answer (judges flight (itemAs flight 16 0 fMinusZero 0 0)) is answer (says (ack tablet 0 0 1)))
-    ∷ (answer (after fresh (uploads 2 (waypoint 0 ∷ [])) (sendsItem tablet 0 (jumpTo 1 fMinusZero fMinusZero))) is answer (says (ack tablet 0 0 1)))
+    ∷ (answer (after fresh (uploads flight 2 (waypoint 0 ∷ [])) (sendsItem tablet 0 (jumpTo 1 fMinusZero fMinusZero))) is answer (says (ack tablet 0 0 1)))
     ∷ (answer (judges fence (itemAs fence 5003 0 fMinusZero 0 0)) is answer (verdict 6 1))
     ∷ (answer (judges fence (itemAs fence 5003 0 1 0 0)) is answer (says (ack tablet 0 1 1)))
     ∷ (answer (judges flight (itemAs flight 16 0 0 0 0x80000000)) is answer (verdict 10 0))
     ∷ (answer (judges flight (itemAs flight 16 0 0 0 3394967296)) is answer (says (ack tablet 0 0 1)))
     ∷ (answer (judges flight (itemAs flight 16 0 0 0 3394967295)) is answer (verdict 10 0))
     -- a jump's target is judged against the upload's count: forward jumps are valid; itself, the count, a fraction and -1 are 6
-    ∷ (answer (after flying (uploads 4 []) (sendsItem tablet 0 (jumpTo 0 f3 0))) is answer (says (requestInt tablet 1 0)))
-    ∷ (answer (after flying (uploads 4 []) (sendsItem tablet 0 (jumpTo 0 f4 0))) is answer (verdict 6 0))
-    ∷ (answer (after flying (uploads 4 []) (sendsItem tablet 0 (jumpTo 0 0 0))) is answer (verdict 6 0))
-    ∷ (answer (after flying (uploads 4 []) (sendsItem tablet 0 (jumpTo 0 0x3fc00000 0))) is answer (verdict 6 0))
-    ∷ (answer (after flying (uploads 4 []) (sendsItem tablet 0 (jumpTo 0 fMinusOne 0))) is answer (verdict 6 0))
+    ∷ (answer (after flying (uploads flight 4 []) (sendsItem tablet 0 (jumpTo 0 f3 0))) is answer (says (requestInt tablet 1 0)))
+    ∷ (answer (after flying (uploads flight 4 []) (sendsItem tablet 0 (jumpTo 0 f4 0))) is answer (verdict 6 0))
+    ∷ (answer (after flying (uploads flight 4 []) (sendsItem tablet 0 (jumpTo 0 0 0))) is answer (verdict 6 0))
+    ∷ (answer (after flying (uploads flight 4 []) (sendsItem tablet 0 (jumpTo 0 0x3fc00000 0))) is answer (verdict 6 0))
+    ∷ (answer (after flying (uploads flight 4 []) (sendsItem tablet 0 (jumpTo 0 fMinusOne 0))) is answer (verdict 6 0))
     -- a sixteenth jump gets 4, last in the order
     ∷ (answer (after jumping [] (sendsItem tablet 0 (jumpTo 15 0 0))) is answer (verdict 4 0))
     ∷ (answer (after jumping [] (sendsItem tablet 0 (jumpTo 15 0 fNaN))) is answer (verdict 7 0))
