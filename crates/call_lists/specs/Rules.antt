@@ -13,10 +13,10 @@ use Rattle.rules.specs.Messages.{Station, sameStation, Item, Message, setCurren
 use Rattle.rules.specs.Items.{jumpsAmong, fault}
 use Rattle.rules.specs.Model.{Run, Upload, idle, running, Shown, Model, uploadOf, lengthOf, fresh, elapsed, expected, isLast, whole, wholeOk, isOthers, isOwn, put, empty}
 use Rattle.rules.specs.Calls.{Call, message, timer, done, oursOrAll, forUs, heardMessage, heard, Request, chooses, asksList, announces, clears, acknowledges, asksItem, brings, Heard, refuses, request, expiry, commandDone, isKnown}
-use Rattle.rules.specs.Step.{Answer, refused, silent, says, orders, isRefused, Stepped, onCount, takes, onItem, onAck, onClear, anyOthers, covered, onList, onRequest, onSetCurrent, onKnown, kindOk, onMessage, onTimer, act, run}
+use Rattle.rules.specs.Step.{Answer, refused, silent, says, orders, isRefused, Stepped, onCount, onValidItem, onItem, onAck, onClear, anyOthers, covered, onList, onRequest, onSetCurrent, onKnown, kindOk, onMessage, onTimer, act, run}
 use Rattle.rules.specs.Laws.Tests.{either}
 use Rattle.rules.specs.Laws.Refused.{message-answered, timer-answered}
-use Rattle.call_lists.specs.Uploads.{shownBy, answerTo, hears, letIn, Open, Completes, Empties, byCount, byClear, byClearAll, Stroke, uploaded, emptied, chosen, advanced, nothing}
+use Rattle.call_lists.specs.Uploads.{shownBy, answerTo, hears, letIn, Open, Completes, Empties, byCount, byClear, byClearAll, Stroke, uploaded, emptied, chosen, movedOn, nothing}
 use Rattle.call_lists.specs.Laws.Lists.{run-snoc, same-self, same-station}
 use Rattle.call_lists.specs.Laws.Turns.{no, or-left, runOf}
 use Rattle.call_lists.specs.Tracks.{one-more, open-runs, runs-open}
@@ -31,7 +31,7 @@ completes-model :
     (m : Model) (k : ℕ) (r : Run) → isKnown k ≡ true → uploadOf m k ≡ running r → (now : ℕ) (item : Item) → item .seq ≡ expected r
     → fault k (r .count) (expected r) (jumpsAmong (r .taken)) item ≡ accepted → expected r + 1 ≡ r .count → wholeOk k (whole r (itemOf item)) ≡ true
     → act m (request (r .station) now k (brings item)) .model .shown ≡ put k (whole r (itemOf item)) (m .shown)
-unfolding act onMessage onKnown kindOk onItem takes
+unfolding act onMessage onKnown kindOk onItem onValidItem
 completes-model m k r known runs now item turn valid last ok =
     rw (known, runs, same-self (r .station), eq-eqb (item .seq) (expected r) turn, valid, eq-eqb (expected r + 1) (r .count) last, ok)
 
@@ -120,11 +120,11 @@ module _ (pre : List Call) (c : Call) where
         cleared in-it false t =
             rw t (emptied (k ∷ []) (byClear k o now sent (leb-true k rally (or-left (isKnown k) (eqb k everyKind) t ok)) in-it))
 
-    takes-way :
+    valid-way :
         (known : isKnown k ≡ true) (r : Run) (item : Item) → uploadOf m k ≡ running r → o ≡ r .station → hears c ≡ request o now k (brings item) → item .seq ≡ expected r
-        → fault k (r .count) (expected r) (jumpsAmong (r .taken)) item ≡ accepted → Way (takes m o now k r (itemOf item))
-    unfolding takes
-    takes-way known r item runs own sent turn valid =
+        → fault k (r .count) (expected r) (jumpsAmong (r .taken)) item ≡ accepted → Way (onValidItem m o now k r (itemOf item))
+    unfolding onValidItem
+    valid-way known r item runs own sent turn valid =
         either Way (not (isLast r)) (λ t w. nothing)
         (λ last. either Way (wholeOk k (whole r (itemOf item)))
         (λ ok w. uploaded k (whole r (itemOf item))
@@ -154,7 +154,7 @@ module _ (pre : List Call) (c : Call) where
         either Way (not (sameStation o (r .station))) (λ t w. nothing)
         (λ own. either Way (not (eqb (item .seq) (expected r))) (λ t w. nothing)
         (λ turn. either Way (not (eqb verdict accepted)) (λ t w. nothing)
-        (λ valid. takes-way known r item runs (same-station o (r .station) (not-false (sameStation o (r .station)) own)) sent
+        (λ valid. valid-way known r item runs (same-station o (r .station) (not-false (sameStation o (r .station)) own)) sent
         (eqb-true (item .seq) (expected r) (not-false (eqb (item .seq) (expected r)) turn)) (eqb-true verdict accepted (not-false (eqb verdict accepted) valid)))))
 
     known-way : (q : Request) → hears c ≡ request o now k q → kindOk k q ≡ true → Way (onKnown m o now k q)
@@ -183,7 +183,7 @@ module _ (pre : List Call) (c : Call) where
   heard-way (refuses outcome) sent = λ w. nothing
   heard-way (request o now k q) sent = message-way o now k q sent
   heard-way (expiry now k) sent = timer-way (uploadOf m k) now k
-  heard-way commandDone sent = λ w. advanced sent
+  heard-way commandDone sent = λ w. movedOn sent
 
   -- what is shown changes only by a completed upload, an allowed clear or empty count, an accepted choice or an advance
   pub only-strokes : Stroke pre c (shownBy (pre ++ (c ∷ [])))

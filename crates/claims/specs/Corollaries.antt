@@ -100,7 +100,7 @@ module _ {pre : List Call} {c : Call} {v w : World} {g : Got} (called : Called p
   pub takes-effect : (k : ℕ) (items : List Bytes) → Completes pre c k items → shows w .shown ≡ put k items (shows v .shown)
   takes-effect k items completed =
       ap (λ (m : Model). m .shown) (after called)
-      ∙ demand-3 (called .store) (pre ++ (c ∷ [])) (called .given ++ (g ∷ [])) w (all called) .takes pre [] c refl k items completed
+      ∙ demand-3 (called .store) (pre ++ (c ∷ [])) (called .given ++ (g ∷ [])) w (all called) .takesEffect pre [] c refl k items completed
       ∙ ap (λ (m : Model). put k items (m .shown)) (sym (before called))
 
   -- ---- a call that is answered and changes nothing

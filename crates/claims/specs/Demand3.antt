@@ -72,7 +72,7 @@ module _ (State : Type 0) (freshState : State) (view : State → Bytes → Model
     -- "only completed uploads, allowed clears, accepted item choices and advances change these, each at one stroke"
     pub only : (pre post : List Call) (c : Call) → cs ≡ pre ++ (c ∷ post) → Stroke pre c (shownBy (pre ++ (c ∷ [])))
     -- an upload that arrives takes effect at its last item: "the sender's own items taken since its count, as they came, all and in order"
-    pub takes :
+    pub takesEffect :
         (pre post : List Call) (c : Call) → cs ≡ pre ++ (c ∷ post) → (k : ℕ) (items : List Bytes) → Completes pre c k items
         → shownBy (pre ++ (c ∷ [])) ≡ put k items (shownBy pre)
     -- "an empty one at its count", and an allowed clear
@@ -183,7 +183,7 @@ module _ (State : Type 0) (freshState : State) (view : State → Bytes → Model
           reads = all .reads;
           ranged = λ pre post c e. never-out-of-range pre c;
           only = λ pre post c e. only-strokes pre c;
-          takes = λ pre post c e. takes-effect pre c;
+          takesEffect = λ pre post c e. takes-effect pre c;
           empties = λ pre post c e. empties-effect pre c;
           letsIn = λ pre post c e. lets-in pre c;
           denied = λ pre post c e. denies pre c;

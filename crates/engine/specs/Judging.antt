@@ -1,4 +1,4 @@
--- An item's step in two parts: the judgement, which reads the store, and what follows from it. `took-judged` has them as `itemTook`.
+-- An item's step in two parts: the judgement, which reads the store, and what follows from it. `turned-judged` has them as `itemTurned`.
 use Prim.Native.Nat.{ℕ, _+_, _<_, _≤_}
 use mathlib.Core.Path.{_≡_, refl}
 use mathlib.Core.Bool.{Bool, true, false, not, cond, _&&_}
@@ -7,7 +7,7 @@ use borrow.Author.Tests.{ltb-true, leb-true}
 use native.Mathlib.Omega.{arith}
 use Rattle.rules.specs.Limits.{accepted, invalid, invalidSequence, denied, maxRepeats}
 use Rattle.rules.specs.Payload.{Bytes}
-use Rattle.rules.specs.Messages.{Station, Item}
+use Rattle.rules.specs.Messages.{Station, Item, sameStation}
 use Rattle.rules.specs.Laws.Tests.{both}
 use Rattle.plan.specs.declared.Plan.{Plan}
 use Rattle.plan.specs.declared.Run.{Run}
@@ -16,37 +16,38 @@ use Rattle.plan.specs.declared.Upload.the-variants.{Idle, Running}
 use Rattle.plan.specs.Places.{itemsIn}
 use Rattle.plan.specs.Ranges.{runRanged, uploadRanged}
 use Rattle.rules.specs.Model.{nextNumber, wholeOk}
+use Rattle.plan.specs.View.{stationIn}
 use Rattle.upload.specs.declared.Say.the-variants.{Ack, Ask}
 use Rattle.engine.specs.declared.Judged.{Judged}
 use Rattle.engine.specs.declared.Judged.the-variants.{Refused, OutOfTurn, Invalid, Valid}
-use Rattle.upload.specs.Turns.{withUpload, ended, replaced, tookOne, isFrom, keeps, renews, Took, took, stored, takesItem, itemVerdict, itemTook}
+use Rattle.upload.specs.Turns.{withUpload, ended, replaced, oneMore, keeps, renews, ItemTurn, itemTurn, stored, validTurn, itemVerdict, itemTurned}
 
 unfoldable pub judgedAs : Bytes → (kind : ℕ) → Upload → Plan → Station → Item → Judged
 judgedAs s kind Idle p from item = Refused invalidSequence
 judgedAs s kind (Running r) p from item =
-    cond (not (isFrom from r)) (Refused denied)
+    cond (not (sameStation from (stationIn r))) (Refused denied)
     (cond (not (eqb (item .seq) (r .next))) (OutOfTurn (r .next))
     (cond (not (eqb (itemVerdict s kind p r item) accepted)) (Invalid (itemVerdict s kind p r item))
     (Valid r)))
 
-unfoldable pub tookAs : Judged → Bytes → (kind : ℕ) → Plan → (now : ℕ) → Item → Took
-tookAs (Refused result) s kind p now item = took (keeps p (Ack result 0)) s
-tookAs (OutOfTurn next) s kind p now item = took (keeps p (Ask next)) s
-tookAs (Invalid result) s kind p now item = took (keeps (ended p) (Ack result 0)) s
-tookAs (Valid r) s kind p now item = takesItem (stored s kind p r item) kind p r now
+unfoldable pub turnedAs : Judged → Bytes → (kind : ℕ) → Plan → (now : ℕ) → Item → ItemTurn
+turnedAs (Refused result) s kind p now item = itemTurn (keeps p (Ack result 0)) s
+turnedAs (OutOfTurn next) s kind p now item = itemTurn (keeps p (Ask next)) s
+turnedAs (Invalid result) s kind p now item = itemTurn (keeps (ended p) (Ack result 0)) s
+turnedAs (Valid r) s kind p now item = validTurn (stored s kind p r item) kind p r now
 
-pub took-judged : (s : Bytes) (kind : ℕ) (u : Upload) (p : Plan) (from : Station) (now : ℕ) (item : Item)
-    → itemTook s kind u p from now item ≡ tookAs (judgedAs s kind u p from item) s kind p now item
-unfolding itemTook judgedAs tookAs
-took-judged s kind Idle p from now item = refl
-took-judged s kind (Running r) p from now item =
-    go (not (isFrom from r)) (not (eqb (item .seq) (r .next))) (not (eqb (itemVerdict s kind p r item) accepted))
+pub turned-judged : (s : Bytes) (kind : ℕ) (u : Upload) (p : Plan) (from : Station) (now : ℕ) (item : Item)
+    → itemTurned s kind u p from now item ≡ turnedAs (judgedAs s kind u p from item) s kind p now item
+unfolding itemTurned judgedAs turnedAs
+turned-judged s kind Idle p from now item = refl
+turned-judged s kind (Running r) p from now item =
+    go (not (sameStation from (stationIn r))) (not (eqb (item .seq) (r .next))) (not (eqb (itemVerdict s kind p r item) accepted))
   where
     go : (a b c : Bool)
-        → cond a (took (keeps p (Ack denied 0)) s)
-        (cond b (took (keeps p (Ask (r .next))) s)
-        (cond c (took (keeps (ended p) (Ack (itemVerdict s kind p r item) 0)) s) (takesItem (stored s kind p r item) kind p r now)))
-        ≡ tookAs (cond a (Refused denied) (cond b (OutOfTurn (r .next)) (cond c (Invalid (itemVerdict s kind p r item)) (Valid r)))) s kind p now item
+        → cond a (itemTurn (keeps p (Ack denied 0)) s)
+        (cond b (itemTurn (keeps p (Ask (r .next))) s)
+        (cond c (itemTurn (keeps (ended p) (Ack (itemVerdict s kind p r item) 0)) s) (validTurn (stored s kind p r item) kind p r now)))
+        ≡ turnedAs (cond a (Refused denied) (cond b (OutOfTurn (r .next)) (cond c (Invalid (itemVerdict s kind p r item)) (Valid r)))) s kind p now item
     go true b c = refl
     go false true c = refl
     go false false true = refl
@@ -56,7 +57,7 @@ took-judged s kind (Running r) p from now item =
 pub valid-running : (s : Bytes) (kind : ℕ) (u : Upload) (p : Plan) (from : Station) (item : Item) (r : Run) → judgedAs s kind u p from item ≡ Valid r → u ≡ Running r
 unfolding judgedAs
 valid-running s kind Idle p from item r e = absurd (let z : _≡_ {A = ℕ} 0 1 = cc in omega arith)
-valid-running s kind (Running q) p from item r e = go (not (isFrom from q)) (not (eqb (item .seq) (q .next))) (not (eqb (itemVerdict s kind p q item) accepted)) e
+valid-running s kind (Running q) p from item r e = go (not (sameStation from (stationIn q))) (not (eqb (item .seq) (q .next))) (not (eqb (itemVerdict s kind p q item) accepted)) e
   where
     go : (a b c : Bool)
         → cond a (Refused denied) (cond b (OutOfTurn (q .next)) (cond c (Invalid (itemVerdict s kind p q item)) (Valid q))) ≡ Valid r
@@ -67,13 +68,13 @@ valid-running s kind (Running q) p from item r e = go (not (isFrom from q)) (not
     go false false false e = cc
 
 -- taking an item leaves the store as the item was put there
-pub takes-store : (s : Bytes) (kind : ℕ) (p : Plan) (r : Run) (now : ℕ) → takesItem s kind p r now .store ≡ s
-unfolding takesItem
-takes-store s kind p r now = go (not (eqb (r .next + 1) (r .count))) (wholeOk kind (itemsIn s (not (p .half)) kind (r .count)))
+pub valid-store : (s : Bytes) (kind : ℕ) (p : Plan) (r : Run) (now : ℕ) → validTurn s kind p r now .store ≡ s
+unfolding validTurn
+valid-store s kind p r now = go (not (eqb (r .next + 1) (r .count))) (wholeOk kind (itemsIn s (not (p .half)) kind (r .count)))
   where
     go : (a b : Bool)
-        → cond a (took (keeps (withUpload p (Running (tookOne r now))) (Ask (r .next + 1))) s)
-        (cond b (took (renews (replaced p (r .count)) (Ack accepted (nextNumber (p .number)))) s) (took (keeps (ended p) (Ack invalid 0)) s))
+        → cond a (itemTurn (keeps (withUpload p (Running (oneMore r now))) (Ask (r .next + 1))) s)
+        (cond b (itemTurn (renews (replaced p (r .count)) (Ack accepted (nextNumber (p .number)))) s) (itemTurn (keeps (ended p) (Ack invalid 0)) s))
         .store
         ≡ s
     go true b = refl

@@ -4,4 +4,4 @@ pub mod Orders
 pub mod Valid
 pub mod Meeting
 pub mod Finding
-pub mod Advanced
+pub mod OrderedBy

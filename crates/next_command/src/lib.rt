@@ -11,7 +11,7 @@ ghost use lib.ListN.{length};
 ghost use Rattle.rules.specs.Limits.{flight, sizeOf, storeBytes};
 ghost use Rattle.rules.specs.Model.{inRange};
 ghost use Rattle.plan.specs.View.{view};
-ghost use Rattle.next_command.specs.Advanced.{Advanced, reachedAs};
+ghost use Rattle.next_command.specs.OrderedBy.{OrderedBy, reachedAs};
 
 // The answer, with the item's number: its seconds, metres, degrees or speed, or a servo's channel and pulse.
 pub enum Command {
@@ -26,7 +26,7 @@ pub enum Command {
 }
 
 // The answer beside the new state.
-pub struct Advance {
+pub struct Ordered {
     pub state: State,
     pub command: Command,
 }
@@ -43,12 +43,12 @@ fn start(current: u16, begun: bool) -> u16
 }
 
 // An item that was found becomes current and begun, with the counts of the search; otherwise nothing changes.
-fn reached(state: State, found: Found) -> Advance
+fn reached(state: State, found: Found) -> Ordered
     ensures { λ r. ⌜ r ≡ reachedAs state found ⌝ }
 {
     let command = found.command;
     if !found.stands {
-        return Advance { state, command };
+        return Ordered { state, command };
     }
     let plans = state.plans;
     let counts = found.counts;
@@ -58,14 +58,14 @@ fn reached(state: State, found: Found) -> Advance
         begun: true,
         counts,
     };
-    Advance { state, command }
+    Ordered { state, command }
 }
 
 // What a "command done" call does, in a state whose numbers are in their ranges.
-pub fn next(state: State, store: &[u8]) -> Advance
+pub fn next(state: State, store: &[u8]) -> Ordered
     requires { ⌜ storeBytes ≤ length (now store) ⌝ }
     requires { ⌜ inRange (view state (now store)) ≡ true ⌝ }
-    ensures { λ r. ⌜ Advanced state (now (store .entry)) r ⌝ }
+    ensures { λ r. ⌜ OrderedBy state (now (store .entry)) r ⌝ }
 {
     let flight = state.plans[0];
     let counts = state.counts;

@@ -12,11 +12,11 @@ use lib.Dec.{eqb, leb, ltb}
 use borrow.Author.Tests.{leb-true, ltb-true, eqb-true, not-false}
 use Rattle.rules.specs.Limits.{flight, fence, rally, kinds, sizeOf, storeBytes, maxRepeats, accepted, invalid, invalidSequence, denied}
 use Rattle.rules.specs.Payload.{Bytes}
-use Rattle.rules.specs.Messages.{Station, Item, ack, itemOf}
+use Rattle.rules.specs.Messages.{Station, Item, ack, itemOf, sameStation}
 use Rattle.rules.specs.Model as model
 use Rattle.rules.specs.Model.{Model, idle, running, expected, whole, wholeOk, nextNumber, withPlan, uploadInRange, inRange}
 use Rattle.rules.specs.Calls.{isKnown}
-use Rattle.rules.specs.Step.{Stepped, Answer, says, acks, requests, takes, onItem}
+use Rattle.rules.specs.Step.{Stepped, Answer, says, acks, requests, onValidItem, onItem}
 use Rattle.rules.specs.Step as rule
 use Rattle.rules.specs.Laws.Tests.{both, either₂}
 use Rattle.rules.specs.Laws.Kinds.{each-kind, ranged-kind}
@@ -28,10 +28,10 @@ use Rattle.plan.specs.declared.Upload.{Upload}
 use Rattle.plan.specs.declared.Upload.the-variants.{Idle, Running}
 use Rattle.plan.specs.Places.{itemsIn, length-items}
 use Rattle.plan.specs.Writes.{putAt, Apart, otherHalf, otherKind, beyond, items-apart, items-more}
-use Rattle.plan.specs.View.{planOf, planIn, runIn, uploadIn, view}
+use Rattle.plan.specs.View.{planOf, planIn, runIn, uploadIn, view, stationIn}
 use Rattle.upload.specs.declared.Say.{Say}
 use Rattle.upload.specs.declared.Say.the-variants.{Ack, Ask}
-use Rattle.upload.specs.Turns.{withUpload, ended, replaced, tookOne, isFrom, keeps, renews, Took, took, takesItem, itemVerdict, itemTook}
+use Rattle.upload.specs.Turns.{withUpload, ended, replaced, oneMore, keeps, renews, ItemTurn, itemTurn, validTurn, itemVerdict, itemTurned}
 use Rattle.states.specs.Whole.{answerOf, turns, itemDone}
 use Rattle.refine.specs.Views.{plan-shown, upload-shown, length-shown, view-upload, view-renewed}
 use Rattle.refine.specs.Turned.{Agree, kept, ends, runs}
@@ -148,8 +148,8 @@ module _ (st : State) (s : Bytes) (long : storeBytes ≤ length s) (ranged : inR
     next-is = length-items s (not (planOf st k .half)) k (r .next)
 
     -- one item taken
-    takes-more :
-        Agree (turns st s′ k from (keeps (withUpload (planOf st k) (Running (tookOne r now))) (Ask (r .next + 1))))
+    valid-more :
+        Agree (turns st s′ k from (keeps (withUpload (planOf st k) (Running (oneMore r now))) (Ask (r .next + 1))))
         (record {
           model =
               record {
@@ -161,12 +161,12 @@ module _ (st : State) (s : Bytes) (long : storeBytes ≤ length s) (ranged : inR
           answer = requests from (r .next + 1) k;
         })
     unfolding uploadIn
-    takes-more =
+    valid-more =
         record {
           model =
-              view-upload st s′ three k (Running (tookOne r now)) (Ask (r .next + 1)) known
+              view-upload st s′ three k (Running (oneMore r now)) (Ask (r .next + 1)) known
               ∙ ap
-              (λ (m : Model). record { shown = m .shown; uploads = set (m .uploads) k (running (runIn s′ (not (planOf st k .half)) k (tookOne r now))) })
+              (λ (m : Model). record { shown = m .shown; uploads = set (m .uploads) k (running (runIn s′ (not (planOf st k .half)) k (oneMore r now))) })
               view-stays
               ∙ ap
               (λ (l : List Bytes). record { shown = view st s .shown; uploads = set (view st s .uploads) k (running (record { station = run .station; count = r .count; taken = l; started = now; repeats = 0 })) })
@@ -180,12 +180,12 @@ module _ (st : State) (s : Bytes) (long : storeBytes ≤ length s) (ranged : inR
         each-kind (λ (j : ℕ). model.planOf (model.put j items (view st s .shown)) j .number ≡ nextNumber (planOf st j .number)) refl refl refl k known
 
     -- the last one: the plan is replaced
-    takes-all :
+    valid-last :
         r .next + 1 ≡ r .count
         → Agree (turns st s′ k from (renews (replaced (planOf st k) (r .count)) (Ack accepted (nextNumber (planOf st k .number)))))
         (rule.replaced (view st s) from k (whole run (itemOf item)))
     unfolding uploadIn model.put
-    takes-all last =
+    valid-last last =
         record {
           model =
               view-renewed st s′ three k (replaced (planOf st k) (r .count)) (Ack accepted (nextNumber (planOf st k .number))) known
@@ -207,11 +207,11 @@ module _ (st : State) (s : Bytes) (long : storeBytes ≤ length s) (ranged : inR
         let after = ends st s′ three k known from say a e in
         record { model = after .model ∙ ap (λ (m : Model). record { shown = m .shown; uploads = set (m .uploads) k idle }) view-stays; answer = after .answer }
 
-    takes-agrees : Agree (itemDone st k from (takesItem s′ k (planOf st k) r now)) (takes (view st s) from now k run (itemOf item))
-    unfolding takesItem takes
-    takes-agrees =
+    valid-agrees : Agree (itemDone st k from (validTurn s′ k (planOf st k) r now)) (onValidItem (view st s) from now k run (itemOf item))
+    unfolding validTurn onValidItem
+    valid-agrees =
         rw next-is
-        (either₂ (λ (t : Took) (m : Stepped). Agree (itemDone st k from t) m) (not (eqb (r .next + 1) (r .count))) (λ t. takes-more)
+        (either₂ (λ (t : ItemTurn) (m : Stepped). Agree (itemDone st k from t) m) (not (eqb (r .next + 1) (r .count))) (λ t. valid-more)
         (λ last. at-last (eqb-true (r .next + 1) (r .count) (not-false (eqb (r .next + 1) (r .count)) last))))
       where
         at-last :
@@ -219,37 +219,37 @@ module _ (st : State) (s : Bytes) (long : storeBytes ≤ length s) (ranged : inR
             → Agree
             (itemDone st k from
             (cond (wholeOk k (itemsIn s′ (not (planOf st k .half)) k (r .count)))
-            (took (renews (replaced (planOf st k) (r .count)) (Ack accepted (nextNumber (planOf st k .number)))) s′)
-            (took (keeps (ended (planOf st k)) (Ack invalid 0)) s′)))
+            (itemTurn (renews (replaced (planOf st k) (r .count)) (Ack accepted (nextNumber (planOf st k .number)))) s′)
+            (itemTurn (keeps (ended (planOf st k)) (Ack invalid 0)) s′)))
             (cond (wholeOk k (whole run (itemOf item))) (rule.replaced (view st s) from k (whole run (itemOf item)))
             (record { model = record { shown = view st s .shown; uploads = set (view st s .uploads) k idle }; answer = acks from invalid k }))
         at-last last =
             rw (all-taken last)
-            (either₂ (λ (t : Took) (m : Stepped). Agree (itemDone st k from t) m) (wholeOk k (whole run (itemOf item))) (λ t. takes-all last)
+            (either₂ (λ (t : ItemTurn) (m : Stepped). Agree (itemDone st k from t) m) (wholeOk k (whole run (itemOf item))) (λ t. valid-last last)
             (λ t. ends-after (Ack invalid 0) (acks from invalid k) refl))
 
-    item-runs : Agree (itemDone st k from (itemTook s k (Running r) (planOf st k) from now item)) (onItem (running run) (view st s) from now k item)
-    unfolding itemTook onItem
+    item-runs : Agree (itemDone st k from (itemTurned s k (Running r) (planOf st k) from now item)) (onItem (running run) (view st s) from now k item)
+    unfolding itemTurned onItem
     item-runs =
         rw next-is
-        (either₂ Both (not (isFrom from r)) (λ t. kept st s three k known from (Ack denied 0) (acks from denied k) refl)
+        (either₂ Both (not (sameStation from (stationIn r))) (λ t. kept st s three k known from (Ack denied 0) (acks from denied k) refl)
         (λ t. either₂ Both (not (eqb (item .seq) (r .next))) (λ t. kept st s three k known from (Ask (r .next)) (requests from (r .next) k) refl)
         (λ t. either₂ Both (not (eqb (itemVerdict s k (planOf st k) r item) accepted))
         (λ t. ends st s three k known from (Ack (itemVerdict s k (planOf st k) r item) 0) (acks from (itemVerdict s k (planOf st k) r item) k) refl)
-        (λ t. takes-agrees))))
+        (λ t. valid-agrees))))
       where
-        Both : Took → Stepped → Type 0
+        Both : ItemTurn → Stepped → Type 0
         Both t m = Agree (itemDone st k from t) m
 
 -- an item of a known kind
 pub item-agrees :
     (st : State) (s : Bytes) → length (st .plans) ≡ length kinds → storeBytes ≤ length s → inRange (view st s) ≡ true → (k : ℕ) → isKnown k ≡ true
     → (from : Station) (now : ℕ) (item : Item)
-    → Agree (itemDone st k from (itemTook s k (planOf st k .upload) (planOf st k) from now item)) (onItem (model.uploadOf (view st s) k) (view st s) from now k item)
-unfolding itemTook onItem uploadIn
+    → Agree (itemDone st k from (itemTurned s k (planOf st k .upload) (planOf st k) from now item)) (onItem (model.uploadOf (view st s) k) (view st s) from now k item)
+unfolding itemTurned onItem uploadIn
 item-agrees st s three long ranged k known from now item = rw (upload-shown st s k known) (by (planOf st k .upload) refl)
   where
     by : (u : Upload) → planOf st k .upload ≡ u
-        → Agree (itemDone st k from (itemTook s k u (planOf st k) from now item)) (onItem (uploadIn s (not (planOf st k .half)) k u) (view st s) from now k item)
+        → Agree (itemDone st k from (itemTurned s k u (planOf st k) from now item)) (onItem (uploadIn s (not (planOf st k .half)) k u) (view st s) from now k item)
     by Idle e = kept st s three k known from (Ack invalidSequence 0) (acks from invalidSequence k) refl
     by (Running r) e = item-runs st s long ranged k known r e item three from now

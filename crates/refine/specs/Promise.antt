@@ -7,7 +7,7 @@ use lib.ListN.{length, getD, take, drop}
 use lib.Dec.{eqb, leb, ltb}
 use Rattle.rules.specs.Limits.{rally, itemBytes}
 use Rattle.rules.specs.Payload.{Bytes}
-use Rattle.rules.specs.Messages.{Station, station, sameStation}
+use Rattle.rules.specs.Messages.{Station, sameStation}
 use Rattle.rules.specs.Model as model
 use Rattle.rules.specs.Model.{Model}
 use Rattle.rules.specs.NextCommand.{Command}
@@ -18,7 +18,7 @@ use Rattle.plan.specs.declared.Plan.{Plan}
 use Rattle.plan.specs.declared.Upload.{Upload}
 use Rattle.plan.specs.declared.Upload.the-variants.{Idle, Running}
 use Rattle.plan.specs.Places.{offsetOf}
-use Rattle.plan.specs.View.{planOf}
+use Rattle.plan.specs.View.{planOf, stationIn}
 
 -- what a call returns: the new state, the outcome, the reply's id and length, and the command of a "command done" call (Stuck for any other call)
 pub record Result (State : Type 0) : Type 0 where
@@ -73,7 +73,7 @@ inPlace half kind n i = leb (offsetOf half kind n) i && ltb i (offsetOf half kin
 unfoldable pub spareIn : Plan → (kind : ℕ) → Upload → Station → (seq i : ℕ) → Bool
 spareIn p kind Idle from seq i = false
 spareIn p kind (Running r) from seq i =
-    sameStation from (station (r .system) (r .component)) && eqb seq (r .next) && inPlace (not (p .half)) kind (r .next) i
+    sameStation from (stationIn r) && eqb seq (r .next) && inPlace (not (p .half)) kind (r .next) i
 
 -- no other call changes any byte of the store
 unfoldable pub spareAt : State → Heard → ℕ → Bool

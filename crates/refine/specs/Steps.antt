@@ -10,7 +10,7 @@ use lib.Dec.{eqb, leb, ltb}
 use borrow.Author.Tests.{leb-true, le-leb, eq-eqb, ne-eqb, eqb-true, ltb-false, leb-false, not-false}
 use Rattle.rules.specs.Limits.{flight, rally, kinds, sizeOf, itemBytes, storeBytes, accepted, maxRepeats, expiryMs, lastNumber}
 use Rattle.rules.specs.Payload.{Bytes}
-use Rattle.rules.specs.Messages.{Station, Item, itemOf}
+use Rattle.rules.specs.Messages.{Station, Item, itemOf, sameStation}
 use Rattle.rules.specs.Model as model
 use Rattle.rules.specs.Model.{Model, nextNumber, elapsed, wholeOk, every, inRange}
 use Rattle.rules.specs.Calls.{Call, Request, chooses, asksList, announces, clears, acknowledges, asksItem, brings, Heard, refuses, request, expiry, commandDone, isKnown, heard}
@@ -29,10 +29,10 @@ use Rattle.plan.specs.declared.Upload.the-variants.{Idle, Running}
 use Rattle.plan.specs.Part.{getD-put-before, getD-put-after}
 use Rattle.plan.specs.Places.{itemsIn, offsetOf, offset-within}
 use Rattle.plan.specs.Writes.{length-stays}
-use Rattle.plan.specs.View.{emptyPlan, planOf, view}
+use Rattle.plan.specs.View.{emptyPlan, planOf, view, stationIn}
 use Rattle.upload.specs.declared.Say.the-variants.{Silent}
 use Rattle.upload.specs.declared.Turned.{Turned}
-use Rattle.upload.specs.Turns.{ended, emptied, renews, isFrom, othersUpload, ownUpload, countTurned, ackTurned, timerTurned, Took, takesItem, itemVerdict, itemTook, stored}
+use Rattle.upload.specs.Turns.{ended, emptied, renews, othersUpload, ownUpload, countTurned, ackTurned, timerTurned, ItemTurn, validTurn, itemVerdict, itemTurned, stored}
 use Rattle.states.specs.Whole.{Done, gives, turnedState, clearedState, othersAmong, clearDone, listDone, requestDone, chooseDone, knownDone, messageDone, timerDone}
 use Rattle.refine.specs.Views.{plan-shown}
 use Rattle.refine.specs.Turned.{Agree, timer-agrees}
@@ -88,21 +88,21 @@ module _ (p : Plan) where
   replaced-ok : (n : ℕ) → HalfOk p (record { len = n; half = not (p .half); number = nextNumber (p .number); upload = Idle })
   replaced-ok n = ap (λ (t : Bool). cond t (p .half) (not (p .half))) (sym (next-moves (p .number)))
 
-  abbrev TookOk : Took → Type 0
-  TookOk t = TurnOk p (t .turned)
+  abbrev ItemTurnOk : ItemTurn → Type 0
+  ItemTurnOk t = TurnOk p (t .turned)
 
-  takes-ok : (s : Bytes) (kind : ℕ) (r : Run) (now : ℕ) → TookOk (takesItem s kind p r now)
-  unfolding takesItem
-  takes-ok s kind r now =
-      either TookOk (not (eqb (r .next + 1) (r .count))) (λ t. same-ok) (λ t. either TookOk (wholeOk kind _) (λ t. replaced-ok (r .count)) (λ t. ended-ok))
+  valid-ok : (s : Bytes) (kind : ℕ) (r : Run) (now : ℕ) → ItemTurnOk (validTurn s kind p r now)
+  unfolding validTurn
+  valid-ok s kind r now =
+      either ItemTurnOk (not (eqb (r .next + 1) (r .count))) (λ t. same-ok) (λ t. either ItemTurnOk (wholeOk kind _) (λ t. replaced-ok (r .count)) (λ t. ended-ok))
 
-  item-ok : (s : Bytes) (kind : ℕ) (u : Upload) (from : Station) (now : ℕ) (item : Item) → TookOk (itemTook s kind u p from now item)
-  unfolding itemTook
+  item-ok : (s : Bytes) (kind : ℕ) (u : Upload) (from : Station) (now : ℕ) (item : Item) → ItemTurnOk (itemTurned s kind u p from now item)
+  unfolding itemTurned
   item-ok s kind Idle from now item = same-ok
   item-ok s kind (Running r) from now item =
-      either TookOk (not (isFrom from r)) (λ t. same-ok)
-      (λ t. either TookOk (not (eqb (item .seq) (r .next))) (λ t. same-ok)
-      (λ t. either TookOk (not (eqb (itemVerdict s kind p r item) accepted)) (λ t. ended-ok) (λ t. takes-ok (stored s kind p r item) kind r now)))
+      either ItemTurnOk (not (sameStation from (stationIn r))) (λ t. same-ok)
+      (λ t. either ItemTurnOk (not (eqb (item .seq) (r .next))) (λ t. same-ok)
+      (λ t. either ItemTurnOk (not (eqb (itemVerdict s kind p r item) accepted)) (λ t. ended-ok) (λ t. valid-ok (stored s kind p r item) kind r now)))
 
 -- ---- halves of the whole state
 
@@ -179,7 +179,7 @@ module _ (st : State) (s : Bytes) (long : storeBytes ≤ length s) (ranged : inR
 
   -- by the upload's own station, with the number expected
   own-written :
-      (r : Run) (from : Station) (item : Item) → planOf st k .upload ≡ Running r → isFrom from r ≡ true → eqb (item .seq) (r .next) ≡ true
+      (r : Run) (from : Station) (item : Item) → planOf st k .upload ≡ Running r → sameStation from (stationIn r) ≡ true → eqb (item .seq) (r .next) ≡ true
       → Beside s (spareIn (planOf st k) k (Running r) from (item .seq)) (stored s k (planOf st k) r item)
   unfolding spareIn
   own-written r from item runs own turn =
@@ -188,21 +188,21 @@ module _ (st : State) (s : Bytes) (long : storeBytes ≤ length s) (ranged : inR
 
   item-beside :
       (u : Upload) → planOf st k .upload ≡ u → (from : Station) (now : ℕ) (item : Item)
-      → Beside s (spareIn (planOf st k) k u from (item .seq)) (itemTook s k u (planOf st k) from now item .store)
-  unfolding itemTook takesItem
+      → Beside s (spareIn (planOf st k) k u from (item .seq)) (itemTurned s k u (planOf st k) from now item .store)
+  unfolding itemTurned validTurn
   item-beside Idle e from now item = beside-same s (spareIn (planOf st k) k Idle from (item .seq))
   item-beside (Running r) e from now item =
       let free = spareIn (planOf st k) k (Running r) from (item .seq) in
       let p = planOf st k in
       let s′ = stored s k p r item in
-      either Left (not (isFrom from r)) (λ t. beside-same s free)
+      either Left (not (sameStation from (stationIn r))) (λ t. beside-same s free)
       (λ own. either Left (not (eqb (item .seq) (r .next))) (λ t. beside-same s free)
-      (λ turn. let after = own-written r from item e (not-false (isFrom from r) own) (not-false (eqb (item .seq) (r .next)) turn) in
+      (λ turn. let after = own-written r from item e (not-false (sameStation from (stationIn r)) own) (not-false (eqb (item .seq) (r .next)) turn) in
       either Left (not (eqb (itemVerdict s k p r item) accepted)) (λ t. beside-same s free)
       (λ t. either Left (not (eqb (r .next + 1) (r .count))) (λ t. after)
       (λ t. either Left (wholeOk k (itemsIn s′ (not (p .half)) k (r .count))) (λ t. after) (λ t. after)))))
     where
-      Left : Took → Type 0
+      Left : ItemTurn → Type 0
       Left t = Beside s (spareIn (planOf st k) k (Running r) from (item .seq)) (t .store)
 
 -- ---- every message
@@ -229,7 +229,7 @@ module _ (st : State) (s : Bytes) (three : length (st .plans) ≡ length kinds) 
   known-halves (acknowledges result) ok = ack-halves result
   known-halves (asksItem seq) ok = either halvesKept (ltb seq (planOf st k .len)) (λ t. halves-same st) (λ t. halves-same st)
   known-halves (brings item) ok =
-      turned-halves st three k (itemTook s k (planOf st k .upload) (planOf st k) from now item .turned) ok (item-ok (planOf st k) s k (planOf st k .upload) from now item)
+      turned-halves st three k (itemTurned s k (planOf st k .upload) (planOf st k) from now item .turned) ok (item-ok (planOf st k) s k (planOf st k .upload) from now item)
 
   message-halves : (r : Request) → halvesKept (messageDone st s from now k r)
   unfolding messageDone

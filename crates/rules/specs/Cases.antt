@@ -19,11 +19,11 @@ use Rattle.rules.specs.Calls.{Call, message, timer, done, forUs, heardMe
 use Rattle.rules.specs.Values.{signed, finite, atLeastZero, aboveZero, zeroTo, wholeOf, wholeFrom, wholeNumber}
 use Rattle.rules.specs.Items.{targetIn, paramOk, frameOk, jumpsAmong, placeFault, faultIn, faultAmong, fault}
 use Rattle.rules.specs.Fence.{runWith, readItem, readItems, returnPoints, fenceOk}
-use Rattle.rules.specs.Step.{Answer, says, commandIn, step, run, onCount, takes, onItem, onAck, onClear, onList, onRequest, onSetCurrent, onKnown, kindOk, onMessage, onTimer, act, answers}
+use Rattle.rules.specs.Step.{Answer, says, commandIn, step, run, onCount, onValidItem, onItem, onAck, onClear, onList, onRequest, onSetCurrent, onKnown, kindOk, onMessage, onTimer, act, answers}
 
 -- what a proof by computation unfolds: the rules, whole
 unfoldable pub computing : Unit {0}
-unfolding numberAt bytesOf significant trim layoutOf values pack messageOf encode decode itemOf itemIn signed finite atLeastZero aboveZero zeroTo wholeOf wholeFrom wholeNumber targetIn paramOk frameOk jumpsAmong placeFault faultIn faultAmong fault runWith readItem readItems returnPoints fenceOk nextNumber shownNumber elapsed wholeOk isOthers isOwn withPlan put emptied empty choose uploadInRange inRange commandOf passedOver runsAfter meets settle search next reach advance forUs heardMessage heard onCount takes onItem onAck onClear onList onRequest onSetCurrent onKnown kindOk onMessage onTimer act step run answers ofBits
+unfolding numberAt bytesOf significant trim layoutOf values pack messageOf encode decode itemOf itemIn signed finite atLeastZero aboveZero zeroTo wholeOf wholeFrom wholeNumber targetIn paramOk frameOk jumpsAmong placeFault faultIn faultAmong fault runWith readItem readItems returnPoints fenceOk nextNumber shownNumber elapsed wholeOk isOthers isOwn withPlan put emptied empty choose uploadInRange inRange commandOf passedOver runsAfter meets settle search next reach advance forUs heardMessage heard onCount onValidItem onItem onAck onClear onList onRequest onSetCurrent onKnown kindOk onMessage onTimer act step run answers ofBits
 computing = tt
 
 pub data Value : Type 0 where

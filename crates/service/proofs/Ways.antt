@@ -22,20 +22,20 @@ use Rattle.states.specs.Whole.{Done, gives, messageDone, timerDone}
 use Rattle.refusal.specs.Refusals.{refusalOf, requestOf, HeardMessage, HeardTimer, HeardDone, message-heard, timer-heard, done-heard}
 use Rattle.answers.specs.declared.Served.{Served}
 use Rattle.answers.specs.Answered.{AnsweredBy, Handled}
-use Rattle.next_command.specs.declared.Advance.{Advance}
-use Rattle.next_command.specs.Advanced as moved
+use Rattle.next_command.specs.declared.Ordered.{Ordered}
+use Rattle.next_command.specs.OrderedBy.{OrderedBy}
 use Rattle.refine.specs.Steps.{message-steps, timer-steps, done-steps}
 use Rattle.refine.specs.Turned.{timer-agrees}
 use Rattle.refine.specs.Messages.{message-agrees}
 use Rattle.refine.specs.Serving.{Gives, steps-serve}
-use Rattle.service.specs.Calls.{Serves, served, advanced}
+use Rattle.service.specs.Calls.{Serves, servedResult, advanceResult}
 use Rattle.service.specs.declared.Advanced.{Advanced}
 
 -- the ranges, by the test's answer
 ranged-is : (st : State) (s : Bytes) (ranged : Bool) → ranged ≡ inRange (view st s) → ranged ≡ true → inRange (view st s) ≡ true
 ranged-is st s ranged e t = sym e ∙ t
 
-answered-gives : (d : Done) (s′ b b′ : Bytes) (r : Served) → AnsweredBy d b b′ r → s′ ≡ d .store → commandIn (d .answer) ≡ rules.stuck → Gives d s′ b b′ (served r)
+answered-gives : (d : Done) (s′ b b′ : Bytes) (r : Served) → AnsweredBy d b b′ r → s′ ≡ d .store → commandIn (d .answer) ≡ rules.stuck → Gives d s′ b b′ (servedResult r)
 answered-gives d s′ b b′ r a store stuck =
     record { state = a .state; store = store; outcome = a .outcome; id = a .id; len = a .len; command = sym stuck; buffer = a .buffer; reads = a .reads }
 
@@ -55,7 +55,7 @@ module _ (st : State) (s b : Bytes) (own from : Station) (id : ℕ) (p : Bytes) 
   pub message-serves :
       length (st .plans) ≡ length kinds → (s′ b′ : Bytes) (r : Served)
       → Handled (messageDone st s from clock (kindOf (decode id p)) (requestOf (decode id p))) s′ b b′ r
-      → Serves (message own from id p clock (length s) (length b)) st s s′ b b′ (served r)
+      → Serves (message own from id p clock (length s) (length b)) st s s′ b b′ (servedResult r)
   message-serves three s′ b′ r h =
       let k = kindOf (decode id p) in
       let q = requestOf (decode id p) in
@@ -64,7 +64,7 @@ module _ (st : State) (s b : Bytes) (own from : Station) (id : ℕ) (p : Bytes) 
       let agree = message-agrees st s three (says .there .long) in-it from clock k q in
       let stuck : commandIn (d .answer) ≡ rules.stuck =
       ap commandIn (agree .answer) ∙ plain-stuck (onMessage (view st s) from clock k q .answer) (message-plain (view st s) from clock k q) in
-      steps-serve c st s s′ b b′ d (served r)
+      steps-serve c st s s′ b b′ d (servedResult r)
       (message-steps c st s three in-it (says .there .long) from clock k q (ap (λ (t : Bool). heard t c) (sym in-range) ∙ says .says))
       (answered-gives d s′ b b′ r (h .answered) (h .store) stuck)
 
@@ -80,7 +80,7 @@ module _ (st : State) (s b : Bytes) (kind clock : ℕ) (ranged : Bool) (outcome 
 
   pub timer-serves :
       length (st .plans) ≡ length kinds → (b′ : Bytes) (r : Served) → AnsweredBy (timerDone st s clock kind) b b′ r
-      → Serves (timer kind clock (length s) (length b)) st s s b b′ (served r)
+      → Serves (timer kind clock (length s) (length b)) st s s b b′ (servedResult r)
   unfolding timerDone
   timer-serves three b′ r a =
       let d = timerDone st s clock kind in
@@ -90,7 +90,7 @@ module _ (st : State) (s b : Bytes) (kind clock : ℕ) (ranged : Bool) (outcome 
       let u = model.uploadOf (view st s) kind in
       let stuck : commandIn (d .answer) ≡ rules.stuck =
       ap commandIn (agree .answer) ∙ plain-stuck (onTimer u (view st s) clock kind .answer) (timer-plain (view st s) u clock kind) in
-      steps-serve c st s s b b′ d (served r)
+      steps-serve c st s s b b′ d (servedResult r)
       (timer-steps c st s three (ranged-is st s ranged in-range (ticks .there .inRange)) clock kind known (ap (λ (t : Bool). heard t c) (sym in-range) ∙ ticks .says))
       (answered-gives d s b b′ r a refl stuck)
 
@@ -108,11 +108,11 @@ module _ (st : State) (s : Bytes) (ranged : Bool) (outcome : ℕ)
   done-ranged = ranged-is st s ranged in-range (finished .inRange)
 
   pub done-serves :
-      length (st .plans) ≡ length kinds → (r : Advance) → moved.Advanced st s r
-      → Serves (done (length s)) st s s [] [] (advanced (record { state = r .state; outcome = noReply; command = r .command }))
+      length (st .plans) ≡ length kinds → (r : Ordered) → OrderedBy st s r
+      → Serves (done (length s)) st s s [] [] (advanceResult (record { state = r .state; outcome = noReply; command = r .command }))
   done-serves three r a =
       let d = gives (r .state) s (orders (rules.answerOf (rules.next (view st s .shown)))) in
       let c = done (length s) in
-      steps-serve c st s s [] [] d (advanced (record { state = r .state; outcome = noReply; command = r .command }))
+      steps-serve c st s s [] [] d (advanceResult (record { state = r .state; outcome = noReply; command = r .command }))
       (done-steps c st s three done-ranged (r .state) (a .shown) (a .plans) (ap (λ (t : Bool). heard t c) (sym in-range) ∙ finished .says))
       (record { state = refl; store = refl; outcome = refl; id = refl; len = refl; command = a .answer; buffer = refl; reads = tt })

@@ -24,12 +24,12 @@ abbrev pub Serves : Call → State → (s s′ b b′ : Bytes) → Result State 
 Serves = promise.Serves State view halfOf spare
 
 -- what message and timer return
-abbrev pub served : Served → Result State
-served r = record { state = r .state; outcome = r .outcome; id = r .id; len = r .len; command = rules.stuck }
+abbrev pub servedResult : Served → Result State
+servedResult r = record { state = r .state; outcome = r .outcome; id = r .id; len = r .len; command = rules.stuck }
 
 -- what advance returns: it writes no message
-abbrev pub advanced : Advanced → Result State
-advanced r = record { state = r .state; outcome = r .outcome; id = 0; len = 0; command = orderOf (r .command) }
+abbrev pub advanceResult : Advanced → Result State
+advanceResult r = record { state = r .state; outcome = r .outcome; id = 0; len = 0; command = orderOf (r .command) }
 
 -- a refused call
 pub refused-serves :

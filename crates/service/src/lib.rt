@@ -6,7 +6,7 @@ ghost use mathlib.Core.List.{[]};
 ghost use Rattle.rules.specs.Messages.{station};
 ghost use Rattle.rules.specs.Calls as calls;
 ghost use Rattle.plan.specs.View.{freshState};
-ghost use Rattle.service.specs.Calls.{Serves, served, advanced};
+ghost use Rattle.service.specs.Calls.{Serves, servedResult, advanceResult};
 use answers::Served;
 use answers::say::NO_REPLY;
 use next_command::Command;
@@ -39,7 +39,7 @@ pub fn message(
     payload: &[u8],
     clock: u32,
 ) -> Served
-    ensures { λ r. ⌜ Serves (calls.message (station «own_system» «own_component») (station system component) id (now (payload .entry)) clock (length (now (store .entry))) (length (now (reply .entry)))) state (now (store .entry)) (now (store .exit)) (now (reply .entry)) (now (reply .exit)) (served r) ⌝ }
+    ensures { λ r. ⌜ Serves (calls.message (station «own_system» «own_component») (station system component) id (now (payload .entry)) clock (length (now (store .entry))) (length (now (reply .entry)))) state (now (store .entry)) (now (store .exit)) (now (reply .entry)) (now (reply .exit)) (servedResult r) ⌝ }
 {
     let ranged = plan::ranges::ranged(state);
     let refused = refusal::message_refusal(
@@ -64,7 +64,7 @@ pub fn message(
 
 // A timer call for one kind. Wrong answers that this rules out: refusing everything, and expiries by another clock than the one handed in.
 pub fn timer(state: State, store: &[u8], reply: &mut [u8], kind: u8, clock: u32) -> Served
-    ensures { λ r. ⌜ Serves (calls.timer kind clock (length (now (store .entry))) (length (now (reply .entry)))) state (now (store .entry)) (now (store .entry)) (now (reply .entry)) (now (reply .exit)) (served r) ⌝ }
+    ensures { λ r. ⌜ Serves (calls.timer kind clock (length (now (store .entry))) (length (now (reply .entry)))) state (now (store .entry)) (now (store .entry)) (now (reply .entry)) (now (reply .exit)) (servedResult r) ⌝ }
 {
     let ranged = plan::ranges::ranged(state);
     let refused = refusal::timer_refusal(ranged, store.len(), reply.len(), kind);
@@ -81,7 +81,7 @@ pub fn timer(state: State, store: &[u8], reply: &mut [u8], kind: u8, clock: u32)
 
 // A "command done" call. Wrong answers that this rules out: an answer without moving on to its item, and outcome 0, as if a message had been written.
 pub fn advance(state: State, store: &[u8]) -> Advanced
-    ensures { λ r. ⌜ Serves (calls.done (length (now (store .entry)))) state (now (store .entry)) (now (store .entry)) [] [] (advanced r) ⌝ }
+    ensures { λ r. ⌜ Serves (calls.done (length (now (store .entry)))) state (now (store .entry)) (now (store .entry)) [] [] (advanceResult r) ⌝ }
 {
     let ranged = plan::ranges::ranged(state);
     let refused = refusal::done_refusal(ranged, store.len());

@@ -17,7 +17,7 @@ use Rattle.plan.specs.View.{planOf}
 use Rattle.upload.specs.declared.Say.{Say}
 use Rattle.upload.specs.declared.Say.the-variants.{Silent, Ack, Ask}
 use Rattle.upload.specs.declared.Turned.{Turned}
-use Rattle.upload.specs.Turns.{Took, emptied, renews, countTurned, ackTurned, timerTurned, itemTook, othersUpload, stationOf}
+use Rattle.upload.specs.Turns.{ItemTurn, emptied, renews, countTurned, ackTurned, timerTurned, itemTurned, othersUpload, stationOf}
 
 -- the state, the store and the answer after a call
 pub record Done : Type 0 where
@@ -90,7 +90,7 @@ chooseDone st s seq =
 
 -- ---- every message of a kind that it may have
 
-abbrev pub itemDone : State → (kind : ℕ) → Station → Took → Done
+abbrev pub itemDone : State → (kind : ℕ) → Station → ItemTurn → Done
 itemDone st kind from t = turns st (t .store) kind from (t .turned)
 
 unfoldable pub knownDone : State → Bytes → Station → (now kind : ℕ) → Request → Done
@@ -100,7 +100,7 @@ knownDone st s from now kind (announces n) = turns st s kind from (countTurned (
 knownDone st s from now kind clears = clearDone st s from kind
 knownDone st s from now kind (acknowledges result) = turns st s kind from (ackTurned (planOf st kind) from result)
 knownDone st s from now kind (asksItem seq) = requestDone st s from kind seq
-knownDone st s from now kind (brings item) = itemDone st kind from (itemTook s kind (planOf st kind .upload) (planOf st kind) from now item)
+knownDone st s from now kind (brings item) = itemDone st kind from (itemTurned s kind (planOf st kind .upload) (planOf st kind) from now item)
 
 unfoldable pub messageDone : State → Bytes → Station → (now kind : ℕ) → Request → Done
 messageDone st s from now kind r = cond (kindOk kind r) (knownDone st s from now kind r) (gives st s (says (ack from unsupported kind 0)))

@@ -4,7 +4,7 @@ use mathlib.Core.Bool.{Bool, true, false, not, cond, _&&_}
 use lib.Dec.{eqb, ltb}
 use Rattle.rules.specs.Limits.{maxRepeats, expiryMs, accepted, noSpace, invalid, invalidSequence, denied, cancelled}
 use Rattle.rules.specs.Payload.{Bytes}
-use Rattle.rules.specs.Messages.{Station, station, Item, itemOf}
+use Rattle.rules.specs.Messages.{Station, station, sameStation, Item, itemOf}
 use Rattle.rules.specs.Items.{jumpsAmong, fault}
 use Rattle.rules.specs.Model.{nextNumber, elapsed, wholeOk}
 use Rattle.plan.specs.declared.Plan.{Plan}
@@ -13,6 +13,7 @@ use Rattle.plan.specs.declared.Upload.{Upload}
 use Rattle.plan.specs.declared.Upload.the-variants.{Idle, Running}
 use Rattle.plan.specs.Places.{itemsIn}
 use Rattle.plan.specs.Writes.{putAt}
+use Rattle.plan.specs.View.{stationIn}
 use Rattle.upload.specs.declared.Say.{Say}
 use Rattle.upload.specs.declared.Say.the-variants.{Silent, Ack, Ask}
 use Rattle.upload.specs.declared.Turned.{Turned}
@@ -35,29 +36,26 @@ replaced p n = record { len = n; half = not (p .half); number = nextNumber (p .n
 abbrev pub started : Station → (now n : ℕ) → Run
 started from now n = record { system = from .system; component = from .component; count = n; next = 0; started = now; repeats = 0 }
 
-abbrev pub tookOne : Run → (now : ℕ) → Run
-tookOne r now = record { system = r .system; component = r .component; count = r .count; next = r .next + 1; started = now; repeats = 0 }
+abbrev pub oneMore : Run → (now : ℕ) → Run
+oneMore r now = record { system = r .system; component = r .component; count = r .count; next = r .next + 1; started = now; repeats = 0 }
 
 abbrev pub askedAgain : Run → (now : ℕ) → Run
 askedAgain r now = record { system = r .system; component = r .component; count = r .count; next = r .next; started = now; repeats = r .repeats + 1 }
 
 -- ---- whose an upload is
 
-abbrev pub isFrom : Station → Run → Bool
-isFrom from r = eqb (from .system) (r .system) && eqb (from .component) (r .component)
-
 unfoldable pub othersUpload : Station → Upload → Bool
 othersUpload from Idle = false
-othersUpload from (Running r) = not (isFrom from r)
+othersUpload from (Running r) = not (sameStation from (stationIn r))
 
 unfoldable pub ownUpload : Station → Upload → Bool
 ownUpload from Idle = false
-ownUpload from (Running r) = isFrom from r
+ownUpload from (Running r) = sameStation from (stationIn r)
 
 -- a timer call's reply goes to the upload's station
 abbrev pub stationOf : Upload → Station
 stationOf Idle = station 0 0
-stationOf (Running r) = station (r .system) (r .component)
+stationOf (Running r) = stationIn r
 
 -- ---- the handlers
 
@@ -86,30 +84,30 @@ timerTurned (Running r) p now =
 
 -- ---- an item: the plan and the store after it
 
-pub record Took : Type 0 where
+pub record ItemTurn : Type 0 where
   pub turned : Turned
   pub store : Bytes
 
-abbrev pub took : Turned → Bytes → Took
-took t s = record { turned = t; store = s }
+abbrev pub itemTurn : Turned → Bytes → ItemTurn
+itemTurn t s = record { turned = t; store = s }
 
 -- the store with the item at the upload's next place
 abbrev pub stored : Bytes → (kind : ℕ) → Plan → Run → Item → Bytes
 stored s kind p r item = putAt s (not (p .half)) kind (r .next) (itemOf item)
 
-unfoldable pub takesItem : Bytes → (kind : ℕ) → Plan → Run → (now : ℕ) → Took
-takesItem s kind p r now =
-    cond (not (eqb (r .next + 1) (r .count))) (took (keeps (withUpload p (Running (tookOne r now))) (Ask (r .next + 1))) s)
-    (cond (wholeOk kind (itemsIn s (not (p .half)) kind (r .count))) (took (renews (replaced p (r .count)) (Ack accepted (nextNumber (p .number)))) s)
-    (took (keeps (ended p) (Ack invalid 0)) s))
+unfoldable pub validTurn : Bytes → (kind : ℕ) → Plan → Run → (now : ℕ) → ItemTurn
+validTurn s kind p r now =
+    cond (not (eqb (r .next + 1) (r .count))) (itemTurn (keeps (withUpload p (Running (oneMore r now))) (Ask (r .next + 1))) s)
+    (cond (wholeOk kind (itemsIn s (not (p .half)) kind (r .count))) (itemTurn (renews (replaced p (r .count)) (Ack accepted (nextNumber (p .number)))) s)
+    (itemTurn (keeps (ended p) (Ack invalid 0)) s))
 
 abbrev pub itemVerdict : Bytes → (kind : ℕ) → Plan → Run → Item → ℕ
 itemVerdict s kind p r item = fault kind (r .count) (r .next) (jumpsAmong (itemsIn s (not (p .half)) kind (r .next))) item
 
-unfoldable pub itemTook : Bytes → (kind : ℕ) → Upload → Plan → Station → (now : ℕ) → Item → Took
-itemTook s kind Idle p from now item = took (keeps p (Ack invalidSequence 0)) s
-itemTook s kind (Running r) p from now item =
-    cond (not (isFrom from r)) (took (keeps p (Ack denied 0)) s)
-    (cond (not (eqb (item .seq) (r .next))) (took (keeps p (Ask (r .next))) s)
-    (cond (not (eqb (itemVerdict s kind p r item) accepted)) (took (keeps (ended p) (Ack (itemVerdict s kind p r item) 0)) s)
-    (takesItem (stored s kind p r item) kind p r now)))
+unfoldable pub itemTurned : Bytes → (kind : ℕ) → Upload → Plan → Station → (now : ℕ) → Item → ItemTurn
+itemTurned s kind Idle p from now item = itemTurn (keeps p (Ack invalidSequence 0)) s
+itemTurned s kind (Running r) p from now item =
+    cond (not (sameStation from (stationIn r))) (itemTurn (keeps p (Ack denied 0)) s)
+    (cond (not (eqb (item .seq) (r .next))) (itemTurn (keeps p (Ask (r .next))) s)
+    (cond (not (eqb (itemVerdict s kind p r item) accepted)) (itemTurn (keeps (ended p) (Ack (itemVerdict s kind p r item) 0)) s)
+    (validTurn (stored s kind p r item) kind p r now)))

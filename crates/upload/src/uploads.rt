@@ -1,7 +1,8 @@
 // Whose an upload is: a station is the pair of a sender's system and component.
 ghost use mathlib.Core.Path.{_≡_};
-ghost use Rattle.rules.specs.Messages.{station};
-ghost use Rattle.upload.specs.Turns.{isFrom, othersUpload, ownUpload, stationOf};
+ghost use Rattle.rules.specs.Messages.{station, sameStation};
+ghost use Rattle.plan.specs.View.{stationIn};
+ghost use Rattle.upload.specs.Turns.{othersUpload, ownUpload, stationOf};
 use plan::Run;
 use plan::Upload;
 
@@ -11,7 +12,7 @@ pub struct Station {
 }
 
 pub fn is_from(run: Run, system: u8, component: u8) -> bool
-    ensures { λ r. ⌜ r ≡ isFrom (station system component) run ⌝ }
+    ensures { λ r. ⌜ r ≡ sameStation (station system component) (stationIn run) ⌝ }
 {
     (system == run.system) & (component == run.component)
 }

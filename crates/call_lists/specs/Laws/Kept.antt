@@ -13,7 +13,7 @@ use Rattle.rules.specs.Messages.{Station, sameStation, Item, Message, setCurren
 use Rattle.rules.specs.Items.{jumpsAmong, fault}
 use Rattle.rules.specs.Model.{Plan, Run, Upload, idle, running, Model, planOf, uploadOf, lengthOf, fresh, nextNumber, elapsed, expected, isLast, whole, wholeOk, isOthers, isOwn, withPlan, put, uploadInRange, inRange}
 use Rattle.rules.specs.Calls.{Call, message, timer, done, Request, chooses, asksList, announces, clears, acknowledges, asksItem, brings, Heard, refuses, request, expiry, commandDone, isKnown, oursOrAll, heardMessage, forUs, heard}
-use Rattle.rules.specs.Step.{Stepped, withUpload, onCount, takes, onItem, onAck, onClear, anyOthers, covered, onList, onRequest, onSetCurrent, onKnown, kindOk, onMessage, onTimer, act, step, run}
+use Rattle.rules.specs.Step.{Stepped, withUpload, onCount, onValidItem, onItem, onAck, onClear, anyOthers, covered, onList, onRequest, onSetCurrent, onKnown, kindOk, onMessage, onTimer, act, step, run}
 use Rattle.rules.specs.Laws.Tests.{both, either}
 use Rattle.rules.specs.Laws.Kinds.{covered-known}
 use Rattle.call_lists.specs.Laws.Ranged.{Formed, fresh-formed, formed-ranged, upload-formed, plan-formed, empty-formed, choose-formed}
@@ -73,9 +73,9 @@ module _ (m : Model) (f : Formed m) (from : Station) (now kind : ℕ) (known : i
   unfolding uploadInRange
   idle-ranged = refl
 
-  takes-kept : (r : Run) (b : Bytes) → RunRanged kind r → Kept (takes m from now kind r b)
-  unfolding takes put
-  takes-kept r b h =
+  valid-kept : (r : Run) (b : Bytes) → RunRanged kind r → Kept (onValidItem m from now kind r b)
+  unfolding onValidItem put
+  valid-kept r b h =
       let longer : length (whole r b) ≡ expected r + 1 = length-append (r .taken) (b ∷ []) in
       either Kept (not (isLast r))
       (λ more. running-kept (record { station = r .station; count = r .count; taken = whole r b; started = now; repeats = 0 })
@@ -96,7 +96,7 @@ module _ (m : Model) (f : Formed m) (from : Station) (now kind : ℕ) (known : i
       let verdict = fault kind (r .count) (expected r) (jumpsAmong (r .taken)) item in
       either Kept (not (sameStation from (r .station))) (λ t. f)
       (λ t. either Kept (not (eqb (item .seq) (expected r))) (λ t. f)
-      (λ t. either Kept (not (eqb verdict accepted)) (λ t. ended-kept) (λ t. takes-kept r (itemOf item) (run-ranged kind r e))))
+      (λ t. either Kept (not (eqb verdict accepted)) (λ t. ended-kept) (λ t. valid-kept r (itemOf item) (run-ranged kind r e))))
 
   timer-kept : (u : Upload) → uploadInRange kind u ≡ true → Kept (onTimer u m now kind)
   unfolding onTimer

@@ -5,18 +5,19 @@ use Prim.Native.Nat.{ℕ}
 use borrow.Author.Tests.{eq-eqb, ne-eqb}
 use Rattle.rules.specs.Limits.{accepted, denied}
 use Rattle.rules.specs.Payload.{Bytes}
-use Rattle.rules.specs.Messages.{Station, Item}
+use Rattle.rules.specs.Messages.{Station, Item, sameStation}
 use Rattle.plan.specs.declared.Plan.{Plan}
 use Rattle.plan.specs.declared.Run.{Run}
 use Rattle.plan.specs.declared.Upload.the-variants.{Running}
-use Rattle.upload.specs.Turns.{isFrom, itemVerdict}
+use Rattle.plan.specs.View.{stationIn}
+use Rattle.upload.specs.Turns.{itemVerdict}
 use Rattle.engine.specs.declared.Judged.the-variants.{Refused, OutOfTurn, Invalid, Valid}
 use Rattle.engine.specs.Judging.{judgedAs}
 use borrow.Author.Needs.{needs}
 use Rattle.engine.proofs.judge_running.Statement.{statement}
 use Rattle.engine.proofs.judge_running.Tie as tie
 
-module _ (s : Bytes) (kind : ℕ) (p : Plan) (r : Run) (from : Station) (item : Item) (b : Bool) (is : b ≡ isFrom from r) where
+module _ (s : Bytes) (kind : ℕ) (p : Plan) (r : Run) (from : Station) (item : Item) (b : Bool) (is : b ≡ sameStation from (stationIn r)) where
   denies : not b ≡ true → Refused denied ≡ judgedAs s kind (Running r) p from item
   unfolding judgedAs
   denies e = simp (← is, e)

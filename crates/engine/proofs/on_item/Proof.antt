@@ -1,4 +1,4 @@
--- The step is `tookAs` of the judgement, and each pattern says which judgement it is.
+-- The step is `turnedAs` of the judgement, and each pattern says which judgement it is.
 use mathlib.Core.Path.{_≡_, _∙_, sym, ap}
 use mathlib.Core.Bool.{true, not}
 use Prim.Native.Nat.{ℕ, _≤_, _<_}
@@ -14,39 +14,39 @@ use Rattle.plan.specs.Writes.{putAt, length-stays}
 use Rattle.rules.specs.Laws.Layout.{length-itemOf}
 use Rattle.upload.specs.declared.Say.the-variants.{Ack, Ask}
 use Rattle.upload.specs.declared.Turned.{Turned}
-use Rattle.upload.specs.Turns.{ended, keeps, Took, took, stored, takesItem, itemTook}
+use Rattle.upload.specs.Turns.{ended, keeps, ItemTurn, itemTurn, stored, validTurn, itemTurned}
 use Rattle.engine.specs.declared.Judged.{Judged}
 use Rattle.engine.specs.declared.Judged.the-variants.{Refused, OutOfTurn, Invalid, Valid}
-use Rattle.engine.specs.Judging.{InRange, judgedAs, tookAs, took-judged, valid-running, takes-store, running-in-range}
+use Rattle.engine.specs.Judging.{InRange, judgedAs, turnedAs, turned-judged, valid-running, valid-store, running-in-range}
 use borrow.Author.Needs.{needs}
 use Rattle.engine.proofs.on_item.Statement.{statement}
 use Rattle.engine.proofs.on_item.Tie as tie
 
 module _ (s : Bytes) (kind : ℕ) (p : Plan) (from : Station) (now : ℕ) (item : Item) (j : Judged) (is : j ≡ judgedAs s kind (p .upload) p from item) where
-  abbrev step : Took
-  step = itemTook s kind (p .upload) p from now item
+  abbrev step : ItemTurn
+  step = itemTurned s kind (p .upload) p from now item
 
-  as-judged : (k : Judged) → j ≡ k → tookAs k s kind p now item ≡ step
-  as-judged k e = sym (took-judged s kind (p .upload) p from now item ∙ ap (λ (x : Judged). tookAs x s kind p now item) (sym is ∙ e))
+  as-judged : (k : Judged) → j ≡ k → turnedAs k s kind p now item ≡ step
+  as-judged k e = sym (turned-judged s kind (p .upload) p from now item ∙ ap (λ (x : Judged). turnedAs x s kind p now item) (sym is ∙ e))
 
-  refused : (result : ℕ) (t : Turned) → j ≡ Refused result → t ≡ keeps p (Ack result 0) → took t s ≡ step
-  unfolding tookAs
+  refused : (result : ℕ) (t : Turned) → j ≡ Refused result → t ≡ keeps p (Ack result 0) → itemTurn t s ≡ step
+  unfolding turnedAs
   refused result t e et = rw et (as-judged (Refused result) e)
 
-  out-of-turn : (next : ℕ) (t : Turned) → j ≡ OutOfTurn next → t ≡ keeps p (Ask next) → took t s ≡ step
-  unfolding tookAs
+  out-of-turn : (next : ℕ) (t : Turned) → j ≡ OutOfTurn next → t ≡ keeps p (Ask next) → itemTurn t s ≡ step
+  unfolding turnedAs
   out-of-turn next t e et = rw et (as-judged (OutOfTurn next) e)
 
-  fails : (result : ℕ) (q : Plan) (t : Turned) → j ≡ Invalid result → q ≡ ended p → t ≡ keeps q (Ack result 0) → took t s ≡ step
-  unfolding tookAs
+  fails : (result : ℕ) (q : Plan) (t : Turned) → j ≡ Invalid result → q ≡ ended p → t ≡ keeps q (Ack result 0) → itemTurn t s ≡ step
+  unfolding turnedAs
   fails result q t e eq et = rw (et, eq) (as-judged (Invalid result) e)
 
   passes : (r : Run) (t : Turned) (s′ : Bytes) → j ≡ Valid r → s′ ≡ putAt s (not (p .half)) kind (r .next) (itemOf item)
-      → t ≡ takesItem s′ kind p r now .turned → took t s′ ≡ step
-  unfolding tookAs
+      → t ≡ validTurn s′ kind p r now .turned → itemTurn t s′ ≡ step
+  unfolding turnedAs
   passes r t s′ e es et =
       rw (et, es)
-      (ap (took (takesItem (stored s kind p r item) kind p r now .turned)) (sym (takes-store (stored s kind p r item) kind p r now))
+      (ap (itemTurn (validTurn (stored s kind p r item) kind p r now .turned)) (sym (valid-store (stored s kind p r item) kind p r now))
       ∙ as-judged (Valid r) e)
 
   -- the upload's place is in the store, and the store keeps its length

@@ -15,10 +15,10 @@ use Rattle.plan.specs.declared.State.{State}
 use Rattle.plan.specs.Places.{itemsIn}
 use Rattle.plan.specs.View.{view, planOf}
 use Rattle.plan.specs.Ranges.{uploadRanged, planRanged, countsRanged, stateRanged, ranged-view}
-use Rattle.next_command.specs.declared.Advance.{Advance}
+use Rattle.next_command.specs.declared.Ordered.{Ordered}
 use Rattle.next_command.specs.declared.find.Found.{Found}
 use Rattle.next_command.specs.Finding.{foundOf}
-use Rattle.next_command.specs.Advanced.{Advanced, reachedAs, reaches}
+use Rattle.next_command.specs.OrderedBy.{OrderedBy, reachedAs, reaches}
 use Rattle.next_command.proofs.next.Statement.{statement}
 use Rattle.next_command.proofs.next.Tie as tie
 
@@ -56,12 +56,12 @@ module _ (st : State) (store : Bytes) (ranged : inRange (view st store) ≡ true
       go true e h = omega (arith, len-ranged, ltb-true (st .current) (planOf st flight .len) e)
       go false e h = omega (arith, eqb-true (st .current) 0 h)
 
-done : (st : State) (store : Bytes) (from : ℕ) (f : Found) (r : Advance) → from ≡ cond (st .begun) (st .current + 1) (st .current)
+done : (st : State) (store : Bytes) (from : ℕ) (f : Found) (r : Ordered) → from ≡ cond (st .begun) (st .current + 1) (st .current)
     → foundOf f ≡ rules.search maxFollowed (itemsIn store (planOf st flight .half) flight (planOf st flight .len)) (st .counts) from
-    → r ≡ reachedAs st f → Advanced st store r
+    → r ≡ reachedAs st f → OrderedBy st store r
 unfolding rules.next view
 done st store from f r ef es er =
-    subst (Advanced st store) (sym er)
+    subst (OrderedBy st store) (sym er)
     (reaches st store f (es ∙ ap (rules.search maxFollowed (itemsIn store (planOf st flight .half) flight (planOf st flight .len)) (st .counts)) ef))
 
 element-copy-out-flight : tie.Need-element-copy-out-flight

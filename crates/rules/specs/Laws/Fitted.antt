@@ -15,7 +15,7 @@ use Rattle.rules.specs.Items.{jumpsAmong, fault}
 use Rattle.rules.specs.Model.{Plan, Run, Upload, idle, running, Shown, Model, noPlan, planOf, uploadOf, lengthOf, fresh, nextNumber, elapsed, expected, isLast, whole, wholeOk, isOthers, isOwn, withPlan, put, emptied, empty, choose, inRange}
 use Rattle.rules.specs.NextCommand.{Found, nowhere, found, next, reach, advance}
 use Rattle.rules.specs.Calls.{Call, Request, chooses, asksList, announces, clears, acknowledges, asksItem, brings, Heard, refuses, request, expiry, commandDone, heard}
-use Rattle.rules.specs.Step.{Stepped, withUpload, idleAt, onCount, takes, onItem, onAck, onClear, anyOthers, covered, onList, onRequest, onSetCurrent, onKnown, kindOk, onMessage, onTimer, act, step, run}
+use Rattle.rules.specs.Step.{Stepped, withUpload, idleAt, onCount, onValidItem, onItem, onAck, onClear, anyOthers, covered, onList, onRequest, onSetCurrent, onKnown, kindOk, onMessage, onTimer, act, step, run}
 use Rattle.rules.specs.Laws.Tests.{either}
 use Rattle.rules.specs.Laws.Lists.{each-set, each-append}
 use Rattle.rules.specs.Laws.Layout.{pack-bytes}
@@ -101,9 +101,9 @@ module _ (m : Model) (fits : ModelFits m) where
         (λ t. upload-kept kind (running (record { station = from; count = n; taken = []; started = now; repeats = 0 }))
         (record { station = sender; started = time; taken = λ i. no-bytes }))))
 
-    takes-kept : (r : Run) (b : Bytes) → RunFits r → AllBytes b → Kept (takes m from now kind r b)
-    unfolding takes
-    takes-kept r b h small =
+    valid-kept : (r : Run) (b : Bytes) → RunFits r → AllBytes b → Kept (onValidItem m from now kind r b)
+    unfolding onValidItem
+    valid-kept r b h small =
         let all = whole-bytes r b h small in
         either Kept (not (isLast r))
         (λ t. upload-kept kind (running (record { station = r .station; count = r .count; taken = whole r b; started = now; repeats = 0 }))
@@ -118,7 +118,7 @@ module _ (m : Model) (fits : ModelFits m) where
         let verdict = fault kind (r .count) (expected r) (jumpsAmong (r .taken)) item in
         either Kept (not (sameStation from (r .station))) (λ t. fits)
         (λ t. either Kept (not (eqb (item .seq) (expected r))) (λ t. fits)
-        (λ t. either Kept (not (eqb verdict accepted)) (λ t. ended-kept kind) (λ t. takes-kept r (itemOf item) h (item-bytes item))))
+        (λ t. either Kept (not (eqb verdict accepted)) (λ t. ended-kept kind) (λ t. valid-kept r (itemOf item) h (item-bytes item))))
 
     request-kept : (r : Request) → Kept (onMessage m from now kind r)
     unfolding onMessage onKnown onSetCurrent choose onList onAck onClear onRequest

@@ -13,7 +13,7 @@ use Rattle.rules.specs.Values.{signed, within, float, finite}
 use Rattle.rules.specs.Items.{Row, commands, paramOk, frameOk, isJump, placeFault, roomFault, faultIn, faultAmong, fault, jumpsAmong}
 use Rattle.rules.specs.Model.{Plan, Run, Upload, idle, running, Model, planOf, uploadOf, lengthOf, shownNumber, elapsed, expected, isLast, whole, wholeOk, isOthers, isOwn, put, choose, uploadInRange, inRange}
 use Rattle.rules.specs.Calls.{Call, message, timer, done, Request, chooses, asksList, announces, clears, acknowledges, asksItem, brings, Heard, refuses, request, expiry, commandDone, isKnown, heard}
-use Rattle.rules.specs.Step.{Stepped, onCount, takes, onItem, onAck, onClear, anyOthers, covered, onList, onRequest, onSetCurrent, onKnown, kindOk, onMessage, onTimer, act, step}
+use Rattle.rules.specs.Step.{Stepped, onCount, onValidItem, onItem, onAck, onClear, anyOthers, covered, onList, onRequest, onSetCurrent, onKnown, kindOk, onMessage, onTimer, act, step}
 use Rattle.rules.specs.Laws.Tests.{both, either}
 use Rattle.rules.specs.Laws.Kinds.{size-small, ranged-kind}
 use Rattle.rules.specs.Laws.Written.{ack-fits, request-fits, count-fits, current-fits, item-fits, text-fits}
@@ -101,9 +101,9 @@ module _ (m : Model) (fits : ModelFits m) (ranged : inRange m ≡ true) (from : 
       (λ e. either Good (ltb (sizeOf kind) n) (λ e. acks-fit noSpace (omega arith))
       (λ e. either Good (eqb n 0) (λ e. acks-fit accepted (omega arith)) (λ e. request-fits from 0 kind sender (omega arith) kind-small)))
 
-  takes-good : (now : ℕ) (r : Run) (item : Item) → RunFits r → expected r < sizeOf flight → Good (takes m from now kind r (itemOf item))
-  unfolding takes
-  takes-good now r item fit h =
+  valid-good : (now : ℕ) (r : Run) (item : Item) → RunFits r → expected r < sizeOf flight → Good (onValidItem m from now kind r (itemOf item))
+  unfolding onValidItem
+  valid-good now r item fit h =
       let b = itemOf item in
       let all = put-fits (m .shown) kind (whole r b) (whole-bytes r b fit (item-bytes item)) (fits .plans) in
       either Good (not (isLast r)) (λ e. request-fits from (expected r + 1) kind sender (omega arith) kind-small)
@@ -120,7 +120,7 @@ module _ (m : Model) (fits : ModelFits m) (ranged : inRange m ≡ true) (from : 
       either Good (not (sameStation from (r .station))) (λ e. acks-fit denied (omega arith))
       (λ e. either Good (not (eqb (item .seq) (expected r))) (λ e. request-fits from (expected r) kind sender (omega arith) kind-small)
       (λ e. either Good (not (eqb verdict accepted)) (λ e. acks-fit verdict (fault-small kind (r .count) (expected r) (jumpsAmong (r .taken)) item))
-      (λ e. takes-good now r item fit next)))
+      (λ e. valid-good now r item fit next)))
 
   list-good : Good (onList m from kind)
   unfolding onList

@@ -1,11 +1,12 @@
 -- The pattern says which upload it is; of a running one the answer is its function's.
 use mathlib.Core.Path.{_≡_}
 use mathlib.Core.Bool.{Bool, false}
-use Rattle.rules.specs.Messages.{Station}
+use Rattle.rules.specs.Messages.{Station, sameStation}
 use Rattle.plan.specs.declared.Run.{Run}
 use Rattle.plan.specs.declared.Upload.{Upload}
 use Rattle.plan.specs.declared.Upload.the-variants.{Idle, Running}
-use Rattle.upload.specs.Turns.{isFrom, ownUpload}
+use Rattle.plan.specs.View.{stationIn}
+use Rattle.upload.specs.Turns.{ownUpload}
 use borrow.Author.Needs.{needs}
 use Rattle.upload.proofs.uploads.own_upload.Statement.{statement}
 use Rattle.upload.proofs.uploads.own_upload.Tie as tie
@@ -15,7 +16,7 @@ module _ (from : Station) (u : Upload) where
   unfolding ownUpload
   idle e = rw e
 
-  running : (r : Run) (b : Bool) → u ≡ Running r → b ≡ isFrom from r → b ≡ ownUpload from u
+  running : (r : Run) (b : Bool) → u ≡ Running r → b ≡ sameStation from (stationIn r) → b ≡ ownUpload from u
   unfolding ownUpload
   running r b e eb = rw (e, eb)
 

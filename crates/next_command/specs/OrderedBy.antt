@@ -9,22 +9,22 @@ use Rattle.rules.specs.NextCommand.{answerOf, reach, found, nowhere}
 use Rattle.rules.specs.NextCommand as rules
 use Rattle.plan.specs.declared.State.{State}
 use Rattle.plan.specs.View.{view}
-use Rattle.next_command.specs.declared.Advance.{Advance}
+use Rattle.next_command.specs.declared.Ordered.{Ordered}
 use Rattle.next_command.specs.declared.find.Found.{Found}
 use Rattle.next_command.specs.Orders.{orderOf}
 use Rattle.next_command.specs.Finding.{foundOf}
 
 -- the model after a "command done" call
-abbrev pub advanced : Model → Model
-advanced m = record { shown = rules.advance (m .shown); uploads = m .uploads }
+abbrev pub afterDone : Model → Model
+afterDone m = record { shown = rules.advance (m .shown); uploads = m .uploads }
 
-pub record Advanced (st : State) (store : Bytes) (r : Advance) : Type 0 where
+pub record OrderedBy (st : State) (store : Bytes) (r : Ordered) : Type 0 where
   pub answer : orderOf (r .command) ≡ answerOf (rules.next (view st store .shown))
-  pub shown : view (r .state) store ≡ advanced (view st store)
+  pub shown : view (r .state) store ≡ afterDone (view st store)
   pub plans : r .state .plans ≡ st .plans
 
 -- "The first item that is no jump becomes current and begun"; otherwise the state stays
-unfoldable pub reachedAs : State → Found → Advance
+unfoldable pub reachedAs : State → Found → Ordered
 reachedAs st f =
     record {
       state = cond (f .stands) (record { plans = st .plans; current = f .n; begun = true; counts = f .counts }) st;
@@ -37,7 +37,7 @@ reachedState st stands n counts = cond stands (record { plans = st .plans; curre
 
 module _ (st : State) (store : Bytes) (n : ℕ) (counts : List ℕ) (c : rules.Command) where
   shows : (stands : Bool) → cond stands (found n counts c) (nowhere c) ≡ rules.next (view st store .shown)
-      → view (reachedState st stands n counts) store ≡ advanced (view st store)
+      → view (reachedState st stands n counts) store ≡ afterDone (view st store)
   unfolding view rules.advance reach
   shows true e = ap (λ (f : rules.Found). record { shown = reach f (view st store .shown); uploads = view st store .uploads }) e
   shows false e = ap (λ (f : rules.Found). record { shown = reach f (view st store .shown); uploads = view st store .uploads }) e
@@ -50,7 +50,7 @@ module _ (st : State) (store : Bytes) (n : ℕ) (counts : List ℕ) (c : rules.C
   same-plans true = refl
   same-plans false = refl
 
-pub reaches : (st : State) (store : Bytes) (f : Found) → foundOf f ≡ rules.next (view st store .shown) → Advanced st store (reachedAs st f)
+pub reaches : (st : State) (store : Bytes) (f : Found) → foundOf f ≡ rules.next (view st store .shown) → OrderedBy st store (reachedAs st f)
 unfolding foundOf reachedAs
 reaches st store f e =
     let c = orderOf (f .command) in
