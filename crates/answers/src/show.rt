@@ -1,13 +1,13 @@
 // The messages that ask for what is shown, and SET_CURRENT, which chooses among it.
 ghost use mathlib.Core.Path.{_≡_};
-ghost use mathlib.Core.Bool.{true, cond, _&&_};
+ghost use mathlib.Core.Bool.{true};
 ghost use Prim.Native.Nat.{_≤_};
 ghost use lib.ListN.{length};
-ghost use lib.Dec.{eqb};
 ghost use Rattle.rules.specs.Limits.{flight, rally, storeBytes, replyBytesMin};
 ghost use Rattle.rules.specs.Payload.{Bytes};
 ghost use Rattle.rules.specs.Messages.{station};
 ghost use Rattle.plan.specs.Ranges.{stateRanged};
+ghost use Rattle.rules.specs.Step.{currentField};
 ghost use Rattle.states.specs.Whole.{listDone, requestDone, chooseDone};
 ghost use Rattle.answers.specs.Answered.{AnsweredBy};
 use crate::Served;
@@ -44,7 +44,7 @@ pub fn on_list(state: State, kind: u8, system: u8, component: u8, reply: &mut [u
 
 // The current field of an item: 1 exactly for the flight item that is current.
 fn current_field(kind: u8, seq: u16, current: u16) -> u8
-    ensures { λ r. ⌜ r ≡ cond (eqb kind flight && eqb seq current) 1 0 ⌝ }
+    ensures { λ r. ⌜ r ≡ currentField kind seq current ⌝ }
 {
     if (kind == FLIGHT) & (seq == current) {
         return 1;

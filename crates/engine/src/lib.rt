@@ -100,7 +100,7 @@ fn whole_ok(store: &[u8], kind: u8, half: bool, n: u16) -> bool
 }
 
 // A valid item is in the store: the next is asked for, or after the last the plan is replaced.
-fn take(store: &[u8], kind: u8, plan: Plan, run: Run, clock: u32) -> Turned
+fn valid_turn(store: &[u8], kind: u8, plan: Plan, run: Run, clock: u32) -> Turned
     requires { ⌜ (storeBytes ≤ length (now store)) × InRange (sizeOf kind) run ⌝ }
     ensures { λ r. ⌜ r ≡ validTurn (now (store .entry)) kind plan run clock .turned ⌝ }
 {
@@ -143,7 +143,7 @@ pub fn on_item(
         Judged::Invalid(result) => keeps(ended(plan), Say::Ack(result, 0)),
         Judged::Valid(run) => {
             storage::keep(store, kind, !plan.half, run.next, item);
-            take(store, kind, plan, run, clock)
+            valid_turn(store, kind, plan, run, clock)
         }
     }
 }

@@ -13,7 +13,7 @@ use Rattle.rules.specs.Messages.{Station, count, itemInt, itemIn}
 use Rattle.rules.specs.Model as model
 use Rattle.rules.specs.Model.{Model, idle, every, isOthers, isOwn, shownNumber, choose, inRange}
 use Rattle.rules.specs.Calls.{Request, chooses, asksList, announces, clears, acknowledges, asksItem, brings, isKnown}
-use Rattle.rules.specs.Step.{says, silent, idleAt, covered, anyOthers, onClear, onList, onRequest, onSetCurrent, onKnown, kindOk, onMessage, onAck}
+use Rattle.rules.specs.Step.{says, silent, currentField, idleAt, covered, anyOthers, onClear, onList, onRequest, onSetCurrent, onKnown, kindOk, onMessage, onAck}
 use Rattle.rules.specs.Laws.Tests.{both, either, either₂}
 use Rattle.rules.specs.Laws.Kinds.{covered-known}
 use Rattle.plan.specs.declared.State.{State}
@@ -91,7 +91,7 @@ module _ (st : State) (s : Bytes) (three : length (st .plans) ≡ length kinds) 
       (λ below. record {
         model = refl;
         answer =
-            ap (λ (b : Bytes). says (itemInt from (cond (eqb k flight && eqb seq (st .current)) 1 0) (itemIn b))) (sym (item-shown k seq known (ltb-true seq (planOf st k .len) below)));
+            ap (λ (b : Bytes). says (itemInt from (currentField k seq (st .current)) (itemIn b))) (sym (item-shown k seq known (ltb-true seq (planOf st k .len) below)));
       })
       (λ t. record { model = refl; answer = refl }))
 

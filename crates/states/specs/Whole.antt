@@ -4,12 +4,12 @@ use mathlib.Core.List.{List, [], _∷_}
 use mathlib.Core.Bool.{Bool, false, cond, _&&_, _||_}
 use lib.ListN.{set}
 use lib.Dec.{eqb, ltb}
-use Rattle.rules.specs.Limits.{flight, fence, rally, sizeOf, accepted, unsupported, invalidSequence, denied}
+use Rattle.rules.specs.Limits.{flight, sizeOf, accepted, unsupported, invalidSequence, denied}
 use Rattle.rules.specs.Payload.{Bytes}
-use Rattle.rules.specs.Messages.{Station, Message, current, count, ack, requestInt, itemInt, itemIn}
+use Rattle.rules.specs.Messages.{Station, current, count, ack, requestInt, itemInt, itemIn}
 use Rattle.rules.specs.Model.{noCounts}
 use Rattle.rules.specs.Calls.{Request, chooses, asksList, announces, clears, acknowledges, asksItem, brings}
-use Rattle.rules.specs.Step.{Answer, silent, says, covered, kindOk, refusalText}
+use Rattle.rules.specs.Step.{Answer, silent, says, covered, kindOk, currentField, currentOf, refusalText}
 use Rattle.plan.specs.declared.State.{State}
 use Rattle.plan.specs.declared.Plan.{Plan}
 use Rattle.plan.specs.Places.{itemAt}
@@ -74,19 +74,15 @@ listDone st s from kind = gives st s (says (count from (planOf st kind .len) kin
 unfoldable pub requestDone : State → Bytes → Station → (kind seq : ℕ) → Done
 requestDone st s from kind seq =
     cond (ltb seq (planOf st kind .len))
-    (gives st s (says (itemInt from (cond (eqb kind flight && eqb seq (st .current)) 1 0) (itemIn (itemAt s (planOf st kind .half) kind seq)))))
+    (gives st s (says (itemInt from (currentField kind seq (st .current)) (itemIn (itemAt s (planOf st kind .half) kind seq)))))
     (gives st s (says (ack from invalidSequence kind 0)))
 
 abbrev pub chosenState : State → (seq : ℕ) → State
 chosenState st seq = record { plans = st .plans; current = seq; begun = false; counts = st .counts }
 
-abbrev pub currentMessage : State → (seq : ℕ) → Message
-currentMessage st seq =
-    current seq (planOf st flight .len) 0 0 (numberShown (planOf st flight)) (numberShown (planOf st fence)) (numberShown (planOf st rally))
-
 unfoldable pub chooseDone : State → Bytes → (seq : ℕ) → Done
 chooseDone st s seq =
-    cond (ltb seq (planOf st flight .len)) (gives (chosenState st seq) s (says (currentMessage st seq))) (gives st s (says refusalText))
+    cond (ltb seq (planOf st flight .len)) (gives (chosenState st seq) s (says (currentOf seq (planOf st flight .len) (λ (kind : ℕ). numberShown (planOf st kind))))) (gives st s (says refusalText))
 
 -- ---- every message of a kind that it may have
 

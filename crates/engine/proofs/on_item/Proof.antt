@@ -93,8 +93,8 @@ enum-known-judged-4 c = search needs
 keep-requires : tie.Need-keep-requires
 keep-requires c κs = search (place, needs)
 
-take-requires : tie.Need-take-requires
-take-requires c κs = (search (long, place, needs), search (in-range, needs))
+valid-turn-requires : tie.Need-valid-turn-requires
+valid-turn-requires c κs = (search (long, place, needs), search (in-range, needs))
 
 same-length : tie.Need-same-length
 same-length c = search needs
@@ -134,7 +134,7 @@ on-item-spec =
     keeps-requires-3
     enum-known-judged-4
     keep-requires
-    take-requires
+    valid-turn-requires
     same-length
     returns
     same-length-2

@@ -1,17 +1,16 @@
 -- Below the plan's length the fetched item is written, else ACK 13. A plan's length is in its range, so the place is in the store.
 use Prim.Native.Nat.{ℕ, _≤_, _<_}
 use mathlib.Core.Path.{_≡_, sym}
-use mathlib.Core.Bool.{true, cond, _&&_}
+use mathlib.Core.Bool.{true}
 use native.Mathlib.Omega.{arith}
 use lib.ListN.{length}
-use lib.Dec.{eqb}
 use borrow.Author.Needs.{needs}
 use borrow.Author.Tests.{lt-ltb, le-ltb}
-use Rattle.rules.specs.Limits.{flight, rally, sizeOf, replyBytesMin, replied, invalidSequence}
+use Rattle.rules.specs.Limits.{rally, sizeOf, replyBytesMin, replied, invalidSequence}
 use Rattle.rules.specs.Payload.{Bytes}
 use Rattle.rules.specs.Messages.{station, ack, itemInt, itemIn}
 use Rattle.rules.specs.Layouts.{itemIntId}
-use Rattle.rules.specs.Step.{says}
+use Rattle.rules.specs.Step.{says, currentField}
 use Rattle.item.specs.declared.Item.{Item}
 use Rattle.item.specs.Patterns.{patterns, itemFor, patterns-of}
 use Rattle.plan.specs.declared.State.{State}
@@ -32,7 +31,7 @@ within st kind seq ranged known below = omega (arith, plan-ranges st kind ranged
 module _ (st : State) (store : Bytes) (system component kind seq : ℕ) (b b′ : Bytes) where
   shown : (field : ℕ) (item : Item) (n : ℕ) → replyBytesMin ≤ length b → seq < planOf st kind .len
       → item ≡ itemFor (itemIn (itemAt store (planOf st kind .half) kind seq))
-      → field ≡ cond (eqb kind flight && eqb seq (st .current)) 1 0
+      → field ≡ currentField kind seq (st .current)
       → Wrote (itemInt (station system component) field (patterns item)) b b′ n
       → AnsweredBy (requestDone st store (station system component) kind seq) b b′ (served st replied itemIntId n)
   unfolding requestDone

@@ -14,8 +14,8 @@ use Rattle.upload.specs.declared.Say.the-variants.{Ack, Ask}
 use Rattle.upload.specs.declared.Turned.{Turned}
 use Rattle.upload.specs.Turns.{withUpload, ended, replaced, oneMore, keeps, renews, ItemTurn, itemTurn, validTurn}
 use borrow.Author.Needs.{needs}
-use Rattle.engine.proofs.take.Statement.{statement}
-use Rattle.engine.proofs.take.Tie as tie
+use Rattle.engine.proofs.valid_turn.Statement.{statement}
+use Rattle.engine.proofs.valid_turn.Tie as tie
 
 module _ (s : Bytes) (kind : ℕ) (p : Plan) (r : Run) (now : ℕ) where
   turns : (t u : Turned) → t ≡ u → validTurn s kind p r now ≡ itemTurn u s → t ≡ validTurn s kind p r now .turned
@@ -70,8 +70,8 @@ keeps-requires-2 c κs = search needs
 returns-3 : tie.Need-returns-3
 returns-3 c = search (fails, needs)
 
-pub take-spec : {M : Type 1} → statement M
-take-spec =
+pub valid-turn-spec : {M : Type 1} → statement M
+valid-turn-spec =
     tie.close
     (tie.spec
     add-next
