@@ -13,11 +13,11 @@ ghost use Rattle.answers.specs.Answered.{AnsweredBy};
 use crate::Served;
 use crate::say::REPLIED;
 use crate::say::ack;
-use plan::FLIGHT;
+use limits::FLIGHT;
+use limits::INVALID_SEQUENCE;
 use plan::State;
 use states::chosen_state;
 use states::number_shown;
-use upload::turns::INVALID_SEQUENCE;
 
 // REQUEST_LIST: the length of the plan and its number.
 pub fn on_list(state: State, kind: u8, system: u8, component: u8, reply: &mut [u8]) -> Served

@@ -6,6 +6,11 @@ use crate::print::hex_bytes;
 use crate::print::number;
 use crate::print::push;
 use crate::print::put;
+use limits::FENCE;
+use limits::FLIGHT;
+use limits::ITEM_BYTES;
+use limits::JUMP_COUNTS;
+use limits::RALLY;
 use plan::Plan;
 use plan::Run;
 use plan::State;
@@ -59,7 +64,7 @@ fn item_line(
         at,
         store,
         first,
-        std::num::wrapping_add_usize(first, plan::places::ITEM_BYTES),
+        std::num::wrapping_add_usize(first, ITEM_BYTES),
     );
     end(out, at)
 }
@@ -140,15 +145,15 @@ fn plan_lines(out: &mut [u8; 8192], at: usize, plans: [Plan; 3], store: &[u8]) -
     let flight = plans[0];
     let fence = plans[1];
     let rally = plans[2];
-    let at = kind_lines(out, at, plan::FLIGHT, flight, store);
-    let at = kind_lines(out, at, plan::FENCE, fence, store);
-    kind_lines(out, at, plan::RALLY, rally, store)
+    let at = kind_lines(out, at, FLIGHT, flight, store);
+    let at = kind_lines(out, at, FENCE, fence, store);
+    kind_lines(out, at, RALLY, rally, store)
 }
 
-fn counts_line(out: &mut [u8; 8192], from: usize, counts: [u16; 15]) -> usize {
+fn counts_line(out: &mut [u8; 8192], from: usize, counts: [u16; JUMP_COUNTS]) -> usize {
     let mut at = from;
     let mut i: usize = 0;
-    while i < 15 {
+    while i < JUMP_COUNTS {
         at = number(out, at, counts[i] as u64);
         i += 1;
     }

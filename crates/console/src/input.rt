@@ -156,7 +156,7 @@ fn poke_fits(field: u8, index: u8) -> bool {
     match field {
         0..=9 => index < 3,
         10..=11 => index == 0,
-        12 => index < 15,
+        12 => (index as usize) < limits::JUMP_COUNTS,
         _ => false,
     }
 }

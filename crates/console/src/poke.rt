@@ -1,4 +1,5 @@
 // A host that writes a number of the state. Values are cut to the number's width.
+use limits::JUMP_COUNTS;
 use plan::Plan;
 use plan::Run;
 use plan::State;
@@ -97,7 +98,7 @@ fn poked_in_plan(state: State, field: u8, kind: usize, value: u32) -> State {
 }
 
 fn poked_count(state: State, index: usize, value: u32) -> State {
-    if 15 <= index {
+    if JUMP_COUNTS <= index {
         return state;
     }
     let plans = state.plans;

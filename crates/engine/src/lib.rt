@@ -14,24 +14,23 @@ ghost use Rattle.upload.specs.Turns.{itemTurn, validTurn, itemTurned};
 ghost use Rattle.engine.specs.Judging.{InRange, judgedAs};
 use fence::fence_ok;
 use item::Item;
-use plan::FENCE;
+use limits::ACCEPTED;
+use limits::DENIED;
+use limits::FENCE;
+use limits::INVALID;
+use limits::INVALID_SEQUENCE;
 use plan::Plan;
 use plan::Run;
 use plan::Upload;
 use plan::items::jumps;
 use upload::Say;
 use upload::Turned;
-use upload::turns::ACCEPTED;
-use upload::turns::DENIED;
-use upload::turns::INVALID_SEQUENCE;
 use upload::updates::ended;
 use upload::updates::keeps;
 use upload::updates::renews;
 use upload::updates::replaced;
 use upload::updates::with_upload;
 use upload::uploads::is_from;
-
-const INVALID: u8 = 5;
 
 // What an item is to its kind's upload: refused with a result, not the number expected, invalid with a result, or the valid
 // next item of a running upload.

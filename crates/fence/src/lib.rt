@@ -6,7 +6,8 @@ ghost use Rattle.rules.specs.Limits.{fence, sizeOf, storeBytes};
 ghost use Rattle.rules.specs.Fence.{fenceOk};
 ghost use Rattle.plan.specs.Places.{itemsIn};
 ghost use Rattle.fence.specs.FenceReading.{brokenReading, readingOf, readAs};
-use plan::FENCE;
+use limits::FENCE;
+use limits::MAX_RETURN_POINTS;
 use plan::items::command_at;
 use plan::items::param1_at;
 use plan::items::with_command;
@@ -19,8 +20,6 @@ const RETURN_POINT: u16 = 5000;
 const INCLUSION_VERTEX: u16 = 5001;
 
 const EXCLUSION_VERTEX: u16 = 5002;
-
-const MAX_RETURN_POINTS: u16 = 1;
 
 // Where the reading stands: the rule is broken, or `left` vertices of the open run are still to come, each with the command
 // and the number of vertices of its first.

@@ -2,38 +2,24 @@
 use crate::Item;
 use crate::table::ParamRule;
 use crate::table::Row;
+use limits::ACCEPTED;
+use limits::INVALID_PARAM1;
+use limits::INVALID_PARAM2;
+use limits::INVALID_X;
+use limits::INVALID_Y;
+use limits::INVALID_Z;
+use limits::JUMP;
+use limits::MAX_JUMPS;
+use limits::NO_SPACE;
+use limits::UNSUPPORTED_FRAME;
+use limits::X_LIMIT;
+use limits::Y_LIMIT;
 use values::Whole;
 ghost use mathlib.Core.Path.{_≡_};
 ghost use Rattle.rules.specs.Items.{frameOk, paramOk, targetIn, placeFault, roomFault, faultIn};
 ghost use Rattle.rules.specs.Values.{wholeOf, wholeFrom};
 ghost use Rattle.item.specs.Patterns.{itemFor, patterns};
 ghost use Rattle.item.specs.Table.{ruleOf, rowOf};
-
-pub const JUMP: u16 = 177;
-
-pub const MAX_JUMPS: u16 = 15;
-
-pub const X_LIMIT: i32 = 900_000_000;
-
-pub const Y_LIMIT: i32 = 1_800_000_000;
-
-pub const ACCEPTED: u8 = 0;
-
-pub const UNSUPPORTED_FRAME: u8 = 2;
-
-pub const UNSUPPORTED: u8 = 3;
-
-pub const NO_SPACE: u8 = 4;
-
-pub const INVALID_PARAM1: u8 = 6;
-
-pub const INVALID_PARAM2: u8 = 7;
-
-pub const INVALID_X: u8 = 10;
-
-pub const INVALID_Y: u8 = 11;
-
-pub const INVALID_Z: u8 = 12;
 
 pub fn frame_ok(positional: bool, frame: u8) -> bool
     ensures { λ r. ⌜ r ≡ frameOk positional frame ⌝ }

@@ -3,6 +3,8 @@
 pub mod checks;
 pub mod table;
 
+use limits::JUMP;
+use limits::UNSUPPORTED;
 use table::Listing;
 use values::Whole;
 ghost use mathlib.Core.Path.{_≡_};
@@ -86,17 +88,17 @@ pub fn verdict(item: Item, kind: u8, count: u16, own: u16, jumps: u16) -> u8
             if row.kind == kind {
                 checks::row_fault(row, item, count, own, jumps)
             } else {
-                checks::UNSUPPORTED
+                UNSUPPORTED
             }
         }
-        Listing::NotListed => checks::UNSUPPORTED,
+        Listing::NotListed => UNSUPPORTED,
     }
 }
 
 pub fn is_jump(item: Item) -> bool
     ensures { λ r. ⌜ r ≡ isJump (patterns item) ⌝ }
 {
-    item.command == checks::JUMP
+    item.command == JUMP
 }
 
 // Param 1 as a number: a jump's target, a servo's channel, a vertex's count of vertices. 0 where it is none of 31 bits.

@@ -2,12 +2,10 @@
 ghost use mathlib.Core.Path.{_≡_};
 ghost use Rattle.rules.specs.Items.{commands};
 ghost use Rattle.item.specs.Table.{lookedUp, lookup};
-
-pub const FLIGHT: u8 = 0;
-
-pub const FENCE: u8 = 1;
-
-pub const RALLY: u8 = 2;
+use limits::FENCE;
+use limits::FLIGHT;
+use limits::JUMP;
+use limits::RALLY;
 
 // What is asked of a param.
 pub enum ParamRule {
@@ -56,7 +54,7 @@ pub fn row_of(command: u16) -> Listing
         17 | 20..=22 | 31 => listed_as(FLIGHT, true, ParamRule::Anything, ParamRule::Anything),
         112 | 114 => listed_as(FLIGHT, false, ParamRule::AtLeastZero, ParamRule::Anything),
         115 => listed_as(FLIGHT, false, ParamRule::UpTo(360), ParamRule::Anything),
-        177 => listed_as(
+        JUMP => listed_as(
             FLIGHT,
             false,
             ParamRule::Target,

@@ -6,6 +6,11 @@ use crate::print::of_byte;
 use crate::print::of_short;
 use crate::print::station;
 use crate::print::text;
+use limits::ACCEPTED;
+use limits::CANCELLED;
+use limits::DENIED;
+use limits::INVALID_SEQUENCE;
+use limits::REPLY_BYTES;
 use wire::Ack;
 use wire::Count;
 use wire::ItemInt;
@@ -13,10 +18,10 @@ use wire::RequestInt;
 
 fn result(r: u8) {
     match r {
-        0 => text(b"accepted"),
-        13 => text(b"invalid sequence"),
-        14 => text(b"denied"),
-        15 => text(b"cancelled"),
+        ACCEPTED => text(b"accepted"),
+        INVALID_SEQUENCE => text(b"invalid sequence"),
+        DENIED => text(b"denied"),
+        CANCELLED => text(b"cancelled"),
         _ => text(b"refused"),
     }
     text(b" (ACK ");
@@ -65,7 +70,7 @@ fn one_item(m: ItemInt) {
 }
 
 // To whom the answer goes and what it says.
-pub fn tell(id: u32, reply: &[u8; 54]) {
+pub fn tell(id: u32, reply: &[u8; REPLY_BYTES]) {
     match id {
         wire::COUNT_ID => count(wire::read_count(reply)),
         wire::ACK_ID => ack(wire::read_ack(reply)),

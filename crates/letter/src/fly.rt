@@ -1,6 +1,7 @@
 // What the drone flies: "command done" calls, each with the command it is given next.
 use crate::print;
 use crate::print::text;
+use limits::STORE_BYTES;
 use next_command::Command;
 use plan::State;
 
@@ -19,14 +20,14 @@ fn tell(command: Command) {
     }
 }
 
-fn next(state: State, store: &[u8; 26752]) -> State {
+fn next(state: State, store: &[u8; STORE_BYTES]) -> State {
     let advanced = service::advance(state, store);
     let command = advanced.command;
     tell(command);
     advanced.state
 }
 
-fn each(state: State, store: &[u8; 26752], calls: u16) -> State {
+fn each(state: State, store: &[u8; STORE_BYTES], calls: u16) -> State {
     let mut after = state;
     let mut n: u16 = 0;
     while n < calls {
@@ -37,7 +38,7 @@ fn each(state: State, store: &[u8; 26752], calls: u16) -> State {
 }
 
 // Some "command done" calls, one after another.
-pub fn flies(state: State, store: &[u8; 26752], calls: u16) -> State {
+pub fn flies(state: State, store: &[u8; STORE_BYTES], calls: u16) -> State {
     text(b"The drone flies:");
     let s = each(state, store, calls);
     text(b"\n");

@@ -1,5 +1,7 @@
 // The items that the tablets send. Places are degrees times ten million.
 use item::Item;
+use limits::FENCE;
+use limits::FLIGHT;
 
 pub const WAYPOINT: u16 = 16;
 
@@ -25,20 +27,7 @@ const HOME_Y: u32 = 93705000;
 
 // A flight item, 10 metres above the starting place.
 fn flight(seq: u16, command: u16, x: u32, y: u32) -> Item {
-    item::made(
-        0,
-        0,
-        0,
-        0,
-        x,
-        y,
-        TEN,
-        seq,
-        command,
-        RELATIVE,
-        1,
-        plan::FLIGHT,
-    )
+    item::made(0, 0, 0, 0, x, y, TEN, seq, command, RELATIVE, 1, FLIGHT)
 }
 
 pub fn takeoff() -> Item {
@@ -55,18 +44,5 @@ pub fn waypoint(seq: u16, x: u32, y: u32) -> Item {
 
 // A circle of 200 metres to stay inside.
 pub fn circle(seq: u16, x: u32, y: u32) -> Item {
-    item::made(
-        TWO_HUNDRED,
-        0,
-        0,
-        0,
-        x,
-        y,
-        0,
-        seq,
-        CIRCLE,
-        GLOBAL,
-        1,
-        plan::FENCE,
-    )
+    item::made(TWO_HUNDRED, 0, 0, 0, x, y, 0, seq, CIRCLE, GLOBAL, 1, FENCE)
 }

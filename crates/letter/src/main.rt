@@ -6,8 +6,10 @@ mod print;
 mod questions;
 mod talk;
 
+use limits::STORE_BYTES;
+
 fn main() {
-    let mut store = [0u8; 26752];
+    let mut store = [0u8; STORE_BYTES];
     print::text(b"Three questions of a grower, played over the drone's mission service.\n");
     print::text(
         b"Your tablet is 255/190, the neighbour's 254/190. A place is latitude, longitude in degrees.\n",

@@ -1,6 +1,9 @@
 // Words, numbers and places on standard output.
 use crate::items;
 use item::Item;
+use limits::FENCE;
+use limits::FLIGHT;
+use limits::RALLY;
 
 pub fn text(words: &[u8]) {
     io::write_all(1, words);
@@ -30,9 +33,9 @@ pub fn station(system: u8, component: u8) {
 
 pub fn kind(k: u8) {
     match k {
-        plan::FLIGHT => text(b"flight"),
-        plan::FENCE => text(b"fence"),
-        plan::RALLY => text(b"rally"),
+        FLIGHT => text(b"flight"),
+        FENCE => text(b"fence"),
+        RALLY => text(b"rally"),
         _ => text(b"unknown"),
     }
 }

@@ -11,11 +11,12 @@ use crate::talk::count;
 use crate::talk::item;
 use crate::talk::silence;
 use crate::talk::stands;
-use plan::FENCE;
-use plan::FLIGHT;
+use limits::FENCE;
+use limits::FLIGHT;
+use limits::STORE_BYTES;
 use plan::State;
 
-fn old_plan(state: State, store: &mut [u8; 26752]) -> State {
+fn old_plan(state: State, store: &mut [u8; STORE_BYTES]) -> State {
     text(b"First yesterday's plan, all of it:\n");
     let s = count(state, store, YOURS, FLIGHT, 3, 100);
     let s = item(s, store, YOURS, takeoff(), 110);
@@ -23,14 +24,14 @@ fn old_plan(state: State, store: &mut [u8; 26752]) -> State {
     item(s, store, YOURS, land(2), 130)
 }
 
-fn half_a_plan(state: State, store: &mut [u8; 26752]) -> State {
+fn half_a_plan(state: State, store: &mut [u8; STORE_BYTES]) -> State {
     text(b"Then today's plan of five items, of which two arrive:\n");
     let s = count(state, store, YOURS, FLIGHT, 5, 980);
     let s = item(s, store, YOURS, takeoff(), 990);
     item(s, store, YOURS, waypoint(1, 476301000, 93801000), 1000)
 }
 
-fn radio_drops(state: State, store: &[u8; 26752]) -> State {
+fn radio_drops(state: State, store: &[u8; STORE_BYTES]) -> State {
     text(b"Now the radio drops. The drone hears nothing but its clock:\n");
     let s = silence(state, store, 1000, 250);
     let s = silence(s, store, 1000, 500);
@@ -40,7 +41,7 @@ fn radio_drops(state: State, store: &[u8; 26752]) -> State {
     silence(s, store, 1000, 1500)
 }
 
-pub fn first(state: State, store: &mut [u8; 26752]) -> State {
+pub fn first(state: State, store: &mut [u8; STORE_BYTES]) -> State {
     text(
         b"\nQUESTION 1: If the radio drops while I send the new spray plan, what does the drone fly?\n",
     );
@@ -54,7 +55,7 @@ pub fn first(state: State, store: &mut [u8; 26752]) -> State {
     flies(s, store, 4)
 }
 
-fn out_of_turn_and_twice(state: State, store: &mut [u8; 26752]) -> State {
+fn out_of_turn_and_twice(state: State, store: &mut [u8; STORE_BYTES]) -> State {
     let s = count(state, store, YOURS, FLIGHT, 4, 70000);
     let s = item(s, store, YOURS, takeoff(), 70010);
     text(b"Out of turn, 2 before 1:\n");
@@ -64,14 +65,14 @@ fn out_of_turn_and_twice(state: State, store: &mut [u8; 26752]) -> State {
     item(s, store, YOURS, waypoint(1, 479999999, 99999999), 70040)
 }
 
-fn late(state: State, store: &mut [u8; 26752]) -> State {
+fn late(state: State, store: &mut [u8; STORE_BYTES]) -> State {
     text(b"Late, after the drone has asked again:\n");
     let s = silence(state, store, 70030, 250);
     let s = item(s, store, YOURS, waypoint(2, 476402000, 93902000), 70300);
     item(s, store, YOURS, land(3), 70310)
 }
 
-pub fn second(state: State, store: &mut [u8; 26752]) -> State {
+pub fn second(state: State, store: &mut [u8; STORE_BYTES]) -> State {
     text(b"\nQUESTION 2: And if an item comes late, twice or out of turn?\n");
     let s = out_of_turn_and_twice(state, store);
     let s = late(s, store);
@@ -80,7 +81,7 @@ pub fn second(state: State, store: &mut [u8; 26752]) -> State {
     flies(s, store, 5)
 }
 
-fn neighbour_denied(state: State, store: &mut [u8; 26752]) -> State {
+fn neighbour_denied(state: State, store: &mut [u8; STORE_BYTES]) -> State {
     let s = count(state, store, YOURS, FLIGHT, 3, 90000);
     let s = item(s, store, YOURS, takeoff(), 90010);
     text(b"The neighbour's tablet tries a flight plan too, then sends a fence:\n");
@@ -95,7 +96,7 @@ fn neighbour_denied(state: State, store: &mut [u8; 26752]) -> State {
     count(s, store, NEIGHBOURS, FENCE, 2, 90040)
 }
 
-fn side_by_side(state: State, store: &mut [u8; 26752]) -> State {
+fn side_by_side(state: State, store: &mut [u8; STORE_BYTES]) -> State {
     let s = item(
         state,
         store,
@@ -108,7 +109,7 @@ fn side_by_side(state: State, store: &mut [u8; 26752]) -> State {
     item(s, store, YOURS, land(2), 90080)
 }
 
-pub fn third(state: State, store: &mut [u8; 26752]) -> State {
+pub fn third(state: State, store: &mut [u8; STORE_BYTES]) -> State {
     text(b"\nQUESTION 3: And if my neighbour's tablet sends too?\n");
     let s = neighbour_denied(state, store);
     let s = side_by_side(s, store);

@@ -17,15 +17,15 @@ use answers::say::NO_REPLY;
 use answers::say::ack;
 use answers::say::speak;
 use item::Item;
-use plan::RALLY;
+use limits::ACCEPTED;
+use limits::DENIED;
+use limits::RALLY;
 use plan::State;
 use plan::places::size_of;
 use states::cleared;
 use states::others_among;
 use states::turned_state;
 use upload::Turned;
-use upload::turns::ACCEPTED;
-use upload::turns::DENIED;
 use upload::uploads::station_of;
 
 // A kind's turn is put into the state, and what it says goes to a station.

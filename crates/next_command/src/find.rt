@@ -2,6 +2,8 @@
 use crate::Command;
 use crate::meet;
 use crate::meet::Met;
+use limits::JUMP_COUNTS;
+use limits::MAX_FOLLOWED;
 ghost use mathlib.Core.Path.{_≡_};
 ghost use mathlib.Core.Bool.{true, cond};
 ghost use Prim.Native.Nat.{_+_, _≤_, _<_};
@@ -11,18 +13,16 @@ ghost use Rattle.rules.specs.NextCommand as rules;
 ghost use Rattle.plan.specs.Places.{itemsIn};
 ghost use Rattle.next_command.specs.Finding.{foundOf, settledAs};
 
-const MAX_FOLLOWED: u16 = 64;
-
 // What a search finds: the answer and, where it stands at an item, that item and the counts.
 pub struct Found {
     pub stands: bool,
     pub n: u16,
-    pub counts: [u16; 15],
+    pub counts: [u16; JUMP_COUNTS],
     pub command: Command,
 }
 
 // Where no further jump may be followed.
-fn settled(met: Met, counts: [u16; 15]) -> Found
+fn settled(met: Met, counts: [u16; JUMP_COUNTS]) -> Found
     ensures { λ r. ⌜ foundOf r ≡ settledAs met counts ⌝ }
 {
     match met {
@@ -48,7 +48,7 @@ fn settled(met: Met, counts: [u16; 15]) -> Found
 }
 
 // The counts after jump j is followed.
-fn counted(counts: [u16; 15], j: u16, up: bool) -> [u16; 15]
+fn counted(counts: [u16; JUMP_COUNTS], j: u16, up: bool) -> [u16; JUMP_COUNTS]
     requires { ⌜ j < maxJumps ⌝ }
     requires { ⌜ (up ≡ true → getD counts j 0 < maxRuns) ⌝ }
     ensures { λ r. ⌜ r ≡ set counts j (cond up (getD counts j 0 + 1) (getD counts j 0)) ⌝ }
@@ -63,7 +63,7 @@ fn counted(counts: [u16; 15], j: u16, up: bool) -> [u16; 15]
 }
 
 // The search from item n.
-pub fn find(store: &[u8], half: bool, len: u16, counts: [u16; 15], from: u16) -> Found
+pub fn find(store: &[u8], half: bool, len: u16, counts: [u16; JUMP_COUNTS], from: u16) -> Found
     requires { ⌜ (storeBytes ≤ length (now store)) × (len ≤ sizeOf flight) × (from ≤ sizeOf flight) ⌝ }
     ensures { λ r. ⌜ foundOf r ≡ rules.search maxFollowed (itemsIn (now (store .entry)) half flight len) counts from ⌝ }
 {

@@ -2,7 +2,9 @@
 // passed over.
 use crate::Command;
 use item::Item;
-use plan::FLIGHT;
+use limits::ACCEPTED;
+use limits::FLIGHT;
+use limits::JUMP_COUNTS;
 use values::Whole;
 ghost use mathlib.Core.Path.{_≡_};
 ghost use Prim.Native.Nat.{_≤_, _<_};
@@ -68,12 +70,12 @@ fn jump_look(repeat: Whole, target: u16, j: u16, runs: u16) -> Look
 }
 
 // Item n of a plan of len items, with j jumps before it.
-fn look_at(store: &[u8], half: bool, len: u16, counts: [u16; 15], n: u16, j: u16) -> Look
+fn look_at(store: &[u8], half: bool, len: u16, counts: [u16; JUMP_COUNTS], n: u16, j: u16) -> Look
     requires { ⌜ (storeBytes ≤ length (now store)) × (len ≤ sizeOf flight) × (n < len) ⌝ }
     ensures { λ r. ⌜ r ≡ lookAs len counts n j (itemIn (itemAt (now (store .entry)) half flight n)) ⌝ }
 {
     let item = storage::fetch(store, FLIGHT, half, n);
-    if item::verdict(item, FLIGHT, len, n, j) != 0 {
+    if item::verdict(item, FLIGHT, len, n, j) != ACCEPTED {
         return Look::Meets(Met::Ends(Command::Stuck));
     }
     if !item::is_jump(item) {
@@ -85,7 +87,14 @@ fn look_at(store: &[u8], half: bool, len: u16, counts: [u16; 15], n: u16, j: u16
 }
 
 // From item n on, with j jumps before it.
-fn scan(store: &[u8], half: bool, len: u16, counts: [u16; 15], from: u16, before: u16) -> Met
+fn scan(
+    store: &[u8],
+    half: bool,
+    len: u16,
+    counts: [u16; JUMP_COUNTS],
+    from: u16,
+    before: u16,
+) -> Met
     requires { ⌜ (storeBytes ≤ length (now store)) × (len ≤ sizeOf flight) ⌝ }
     ensures { λ r. ⌜ r ≡ metFor (meets len counts (drop from (itemsIn (now (store .entry)) half flight len)) from before) ⌝ }
 {
@@ -103,7 +112,7 @@ fn scan(store: &[u8], half: bool, len: u16, counts: [u16; 15], from: u16, before
 }
 
 // What a search from item n meets.
-pub fn meet(store: &[u8], half: bool, len: u16, counts: [u16; 15], n: u16) -> Met
+pub fn meet(store: &[u8], half: bool, len: u16, counts: [u16; JUMP_COUNTS], n: u16) -> Met
     requires { ⌜ (storeBytes ≤ length (now store)) × (len ≤ sizeOf flight) × (n ≤ sizeOf flight) ⌝ }
     ensures { λ r. ⌜ r ≡ metFor (searchFrom (itemsIn (now (store .entry)) half flight len) counts n) ⌝ }
 {

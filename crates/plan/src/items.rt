@@ -8,15 +8,14 @@ ghost use Rattle.rules.specs.Items.{jumpsAmong};
 ghost use Rattle.plan.specs.Part.{part, put};
 ghost use Rattle.plan.specs.Places.{itemsIn};
 ghost use Rattle.plan.specs.Stored.{withCommand};
-use super::places::ITEM_BYTES;
 use super::places::place_at;
+use limits::ITEM_BYTES;
+use limits::JUMP;
 
 const COMMAND: usize = 30;
 
-const JUMP: u16 = 177;
-
 // The 38 bytes from `at` become an item's; every other byte stays.
-pub fn put_item(store: &mut [u8], at: usize, bytes: [u8; 38])
+pub fn put_item(store: &mut [u8], at: usize, bytes: [u8; ITEM_BYTES])
     requires { ⌜ at + itemBytes ≤ length (now store) ⌝ }
     ensures { λ r. ⌜ now (store .exit) ≡ put (now (store .entry)) at bytes ⌝ }
 {

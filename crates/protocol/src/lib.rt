@@ -17,21 +17,20 @@ use answers::say::ack;
 use answers::show::on_list;
 use answers::show::on_request;
 use answers::show::on_set_current;
+use limits::EVERY_KIND;
+use limits::RALLY;
+use limits::UNSUPPORTED;
 use messages::on_ack;
 use messages::on_clear;
 use messages::on_count;
 use messages::on_item;
-use plan::RALLY;
 use plan::State;
-use states::EVERY_KIND;
 use wire::ACK_ID;
 use wire::CLEAR_ALL_ID;
 use wire::COUNT_ID;
 use wire::REQUEST_INT_ID;
 use wire::REQUEST_LIST_ID;
 use wire::SET_CURRENT_ID;
-
-const UNSUPPORTED: u8 = 3;
 
 // Whether a message of an id may have a kind: 255 only in CLEAR_ALL, and an ACK never gets a reply, whatever its kind.
 fn kind_ok(id: u32, kind: u8) -> bool

@@ -4,12 +4,9 @@ ghost use Prim.Native.Nat.{ℕ};
 ghost use Rattle.rules.specs.Messages.{Station, station};
 ghost use Rattle.rules.specs.Calls.{message, timer, done, heard, oursOrAll};
 ghost use Rattle.refusal.specs.Refusals.{refusalOf, roomRefusal};
-
-const STORE_BYTES: usize = 26752;
-
-const REPLY_BYTES: usize = 54;
-
-const LAST_KIND: u8 = 2;
+use limits::RALLY;
+use limits::REPLY_BYTES;
+use limits::STORE_BYTES;
 
 const SHORT_REPLY: u8 = 10;
 
@@ -93,7 +90,7 @@ pub fn timer_refusal(ranged: bool, store_len: usize, reply_len: usize, kind: u8)
     if first != 0 {
         return first;
     }
-    if LAST_KIND < kind {
+    if RALLY < kind {
         return NOT_READ;
     }
     0

@@ -9,6 +9,7 @@ ghost use Rattle.item.specs.Patterns.{patterns};
 ghost use Rattle.reply.specs.Written.{BytesOf};
 use crate::trim::copy;
 use item::Item;
+use limits::ITEM_BYTES;
 use wire::Ack;
 use wire::Count;
 use wire::Current;
@@ -109,7 +110,7 @@ pub fn request_int_bytes(m: RequestInt) -> [u8; 5]
 }
 
 // The 38 bytes of ITEM_INT, written from the item's patterns; also those of a stored item, whose system, component and current are 0.
-pub fn item_bytes(system: u8, component: u8, current: u8, item: Item) -> [u8; 38]
+pub fn item_bytes(system: u8, component: u8, current: u8, item: Item) -> [u8; ITEM_BYTES]
     ensures { λ r. ⌜ BytesOf (itemInt (station system component) current (patterns item)) r ⌝ }
 {
     let a = bytes32(item.bits1);

@@ -10,18 +10,18 @@ ghost use Rattle.rules.specs.Step.{covered};
 ghost use Rattle.plan.specs.View.{planOf};
 ghost use Rattle.upload.specs.Turns.{emptied, renews};
 ghost use Rattle.states.specs.Whole.{turnedState, clearedState, othersAmong, numberShown, chosenState};
-use plan::FENCE;
-use plan::FLIGHT;
+use limits::EVERY_KIND;
+use limits::FENCE;
+use limits::FLIGHT;
+use limits::JUMP_COUNTS;
+use limits::RALLY;
 use plan::Plan;
-use plan::RALLY;
 use plan::State;
 use upload::Say;
 use upload::Turned;
 use upload::updates::emptied;
 use upload::updates::renews;
 use upload::uploads::others_upload;
-
-pub const EVERY_KIND: u8 = 255;
 
 // The state after a turn of a kind's plan. A flight plan that was replaced or emptied starts at item 0, not begun.
 pub fn turned_state(state: State, kind: u8, turned: Turned) -> State
@@ -37,7 +37,7 @@ pub fn turned_state(state: State, kind: u8, turned: Turned) -> State
             plans,
             current: 0,
             begun: false,
-            counts: [0; 15],
+            counts: [0; JUMP_COUNTS],
         };
     }
     let counts = state.counts;

@@ -8,8 +8,8 @@ ghost use Rattle.item.specs.Patterns.{itemFor, patterns};
 ghost use Rattle.plan.specs.Places.{itemAt};
 ghost use Rattle.plan.specs.Writes.{putAt};
 use item::Item;
+use limits::ITEM_BYTES;
 use plan::items::put_item;
-use plan::places::ITEM_BYTES;
 use plan::places::place_at;
 
 // The address and the current field of a stored item.

@@ -12,22 +12,15 @@ use super::updates::renews;
 use super::updates::with_upload;
 use super::uploads::others_upload;
 use super::uploads::own_upload;
+use limits::ACCEPTED;
+use limits::CANCELLED;
+use limits::DENIED;
+use limits::EXPIRY_MS;
+use limits::MAX_REPEATS;
+use limits::NO_SPACE;
 use plan::Plan;
 use plan::Run;
 use plan::Upload;
-use plan::ranges::MAX_REPEATS;
-
-pub const ACCEPTED: u8 = 0;
-
-const NO_SPACE: u8 = 4;
-
-pub const INVALID_SEQUENCE: u8 = 13;
-
-pub const DENIED: u8 = 14;
-
-const CANCELLED: u8 = 15;
-
-const EXPIRY_MS: u32 = 250;
 
 // COUNT from a station, of a kind whose plans have at most `size` items.
 pub fn on_count(plan: Plan, system: u8, component: u8, clock: u32, count: u16, size: u16) -> Turned

@@ -1,6 +1,8 @@
 // The calls of the service, with what a host hands in beside the payload.
 ghost use Rattle.io.specs.Counts.{Counts};
 use answers::Served;
+use limits::REPLY_BYTES;
+use limits::STORE_BYTES;
 use plan::State;
 use service::Advanced;
 
@@ -15,8 +17,6 @@ pub struct Host {
     pub reply: usize,
 }
 
-pub const STORE: usize = 26752;
-
 // Own numbers 1/1, sender 255/190, all of the store, and a buffer that just fits.
 pub fn usual() -> Host {
     Host {
@@ -25,8 +25,8 @@ pub fn usual() -> Host {
         system: 255,
         component: 190,
         clock: 0,
-        store: STORE,
-        reply: 54,
+        store: STORE_BYTES,
+        reply: REPLY_BYTES,
     }
 }
 
@@ -81,7 +81,7 @@ fn lend_timer(host: Host, state: State, store: &[u8], reply: &mut [u8], kind: u8
 pub fn message(
     host: Host,
     state: State,
-    store: &mut [u8; 26752],
+    store: &mut [u8; STORE_BYTES],
     reply: &mut [u8; 64],
     id: u32,
     payload: &[u8; 64],
@@ -93,7 +93,7 @@ pub fn message(
 pub fn timer(
     host: Host,
     state: State,
-    store: &[u8; 26752],
+    store: &[u8; STORE_BYTES],
     reply: &mut [u8; 64],
     kind: u8,
 ) -> Served {
@@ -105,6 +105,6 @@ fn lend_done(host: Host, state: State, store: &[u8]) -> Advanced {
     service::advance(state, &store[..store_end])
 }
 
-pub fn done(host: Host, state: State, store: &[u8; 26752]) -> Advanced {
+pub fn done(host: Host, state: State, store: &[u8; STORE_BYTES]) -> Advanced {
     lend_done(host, state, store)
 }

@@ -2,15 +2,14 @@
 use crate::calls::Host;
 use crate::calls::message;
 use answers::Served;
+use limits::ITEM_BYTES;
+use limits::STORE_BYTES;
 use plan::State;
-
-const COUNT: u32 = 44;
-
-const ITEM_INT: u32 = 73;
 
 const WAYPOINT: u32 = 16;
 
-const FLIGHT: u32 = 0;
+// As a number of the script.
+const FLIGHT: u32 = limits::FLIGHT as u32;
 
 // An item's fields but for its number: params and z as patterns, the others 0.
 pub struct Fields {
@@ -83,19 +82,19 @@ fn count_payload(kind: u32, count: u32) -> [u8; 64] {
 fn send_item(
     host: Host,
     state: State,
-    store: &mut [u8; 26752],
+    store: &mut [u8; STORE_BYTES],
     reply: &mut [u8; 64],
     f: Fields,
     n: u32,
 ) -> Served {
     let p = item_payload(f, n);
-    message(host, state, store, reply, ITEM_INT, &p, 38)
+    message(host, state, store, reply, wire::ITEM_INT_ID, &p, ITEM_BYTES)
 }
 
 fn before_last(
     host: Host,
     state: State,
-    store: &mut [u8; 26752],
+    store: &mut [u8; STORE_BYTES],
     f: Fields,
     first: u32,
     last: u32,
@@ -115,7 +114,7 @@ fn before_last(
 pub fn send_items(
     host: Host,
     state: State,
-    store: &mut [u8; 26752],
+    store: &mut [u8; STORE_BYTES],
     reply: &mut [u8; 64],
     f: Fields,
     first: u32,
@@ -136,13 +135,13 @@ fn filler(f: Fields) -> Fields {
 pub fn upload(
     host: Host,
     state: State,
-    store: &mut [u8; 26752],
+    store: &mut [u8; STORE_BYTES],
     reply: &mut [u8; 64],
     f: Fields,
     count: u32,
 ) -> Served {
     let p = count_payload(f.kind, count);
-    let started = message(host, state, store, reply, COUNT, &p, 5);
+    let started = message(host, state, store, reply, wire::COUNT_ID, &p, 5);
     let s = started.state;
     let last = std::num::wrapping_sub_u32(count, 1);
     let state = before_last(host, s, store, filler(f), 0, last);

@@ -4,12 +4,11 @@ use crate::text::next_number;
 use crate::text::seven_numbers;
 use crate::text::wide;
 use answers::Served;
+use limits::JUMP_COUNTS;
 use next_command::Command;
 
 // What a reply buffer is filled with before a call.
 pub const FILL: u8 = 0xa5;
-
-const ACK: u32 = 47;
 
 fn write(text: &[u8]) {
     io::write_all(1, text);
@@ -85,7 +84,7 @@ pub fn reply_is(text: &[u8], at: usize, got: Served, reply: &[u8; 64]) {
 // The reply is to be an ACK with the result that the text has at a place.
 pub fn result_is(text: &[u8], at: usize, got: Served, reply: &[u8; 64]) {
     let want = next_number(text, at);
-    end(is(b": id ", got.id, ACK) & is(b": result ", wide(reply[2]), want.value));
+    end(is(b": id ", got.id, wire::ACK_ID) & is(b": result ", wide(reply[2]), want.value));
 }
 
 // A command's case and item, and its value's bit pattern, or a servo's channel and pulse.
@@ -131,7 +130,13 @@ fn wide_count(n: u16) -> u32 {
 }
 
 // An outcome, a command, and the first two jump counts after it are to be as the text says.
-pub fn command_is(text: &[u8], at: usize, outcome: u32, command: Command, counts: [u16; 15]) {
+pub fn command_is(
+    text: &[u8],
+    at: usize,
+    outcome: u32,
+    command: Command,
+    counts: [u16; JUMP_COUNTS],
+) {
     let want = seven_numbers(text, at);
     let t = tell(command);
     end(

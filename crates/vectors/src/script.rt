@@ -19,6 +19,7 @@ use crate::text::next_bytes;
 use crate::text::next_number;
 use crate::text::seven_numbers;
 use answers::Served;
+use limits::STORE_BYTES;
 use plan::Plan;
 use plan::State;
 use plan::Upload;
@@ -118,7 +119,7 @@ fn message(
     text: &[u8],
     at: usize,
     w: World,
-    store: &mut [u8; 26752],
+    store: &mut [u8; STORE_BYTES],
     reply: &mut [u8; 64],
 ) -> Served {
     let id = next_number(text, at);
@@ -129,7 +130,13 @@ fn message(
     calls::message(host, state, store, reply, id.value, &payload, len)
 }
 
-fn timer(text: &[u8], at: usize, w: World, store: &[u8; 26752], reply: &mut [u8; 64]) -> Served {
+fn timer(
+    text: &[u8],
+    at: usize,
+    w: World,
+    store: &[u8; STORE_BYTES],
+    reply: &mut [u8; 64],
+) -> Served {
     let kind = next_number(text, at);
     let host = w.host;
     let state = w.state;
@@ -150,7 +157,13 @@ fn fields(kind: u32, a: [u32; 7]) -> Fields {
     }
 }
 
-fn sent(text: &[u8], at: usize, w: World, store: &mut [u8; 26752], reply: &mut [u8; 64]) -> Served {
+fn sent(
+    text: &[u8],
+    at: usize,
+    w: World,
+    store: &mut [u8; STORE_BYTES],
+    reply: &mut [u8; 64],
+) -> Served {
     let kind = next_number(text, at);
     let first = next_number(text, kind.at);
     let last = next_number(text, first.at);
@@ -160,7 +173,7 @@ fn sent(text: &[u8], at: usize, w: World, store: &mut [u8; 26752], reply: &mut [
     items::send_items(host, state, store, reply, f, first.value, last.value)
 }
 
-fn uploaded(text: &[u8], at: usize, store: &mut [u8; 26752], reply: &mut [u8; 64]) -> Served {
+fn uploaded(text: &[u8], at: usize, store: &mut [u8; STORE_BYTES], reply: &mut [u8; 64]) -> Served {
     let kind = next_number(text, at);
     let count = next_number(text, kind.at);
     let f = fields(kind.value, seven_numbers(text, count.at));
@@ -168,7 +181,7 @@ fn uploaded(text: &[u8], at: usize, store: &mut [u8; 26752], reply: &mut [u8; 64
     items::upload(host, service::fresh(), store, reply, f, count.value)
 }
 
-fn done(text: &[u8], wanted: usize, w: World, store: &[u8; 26752]) -> State {
+fn done(text: &[u8], wanted: usize, w: World, store: &[u8; STORE_BYTES]) -> State {
     let s = w.state;
     let host = w.host;
     let advanced = calls::done(host, s, store);
@@ -180,7 +193,14 @@ fn done(text: &[u8], wanted: usize, w: World, store: &[u8; 26752]) -> State {
 }
 
 // A line that makes a call: its name is written already, and wanted is where its WANTED begins. The state after it.
-fn play(op: u8, text: &[u8], at: usize, wanted: usize, w: World, store: &mut [u8; 26752]) -> State {
+fn play(
+    op: u8,
+    text: &[u8],
+    at: usize,
+    wanted: usize,
+    w: World,
+    store: &mut [u8; STORE_BYTES],
+) -> State {
     let mut reply = [report::FILL; 64];
     match op {
         b'm' => {
@@ -231,7 +251,7 @@ fn poke(text: &[u8], at: usize, store: &mut [u8]) {
     next_bytes(text, offset.at, &mut store[from..]);
 }
 
-fn line(text: &[u8], at: usize, w: World, store: &mut [u8; 26752]) -> World {
+fn line(text: &[u8], at: usize, w: World, store: &mut [u8; STORE_BYTES]) -> World {
     if byte_at(text, at) == b'#' {
         return w;
     }
@@ -253,7 +273,7 @@ fn line(text: &[u8], at: usize, w: World, store: &mut [u8; 26752]) -> World {
 
 // Every line of a script, from a fresh start on.
 pub fn run(text: &[u8]) {
-    let mut store = [0u8; 26752];
+    let mut store = [0u8; STORE_BYTES];
     let mut w = World {
         state: service::fresh(),
         host: calls::usual(),

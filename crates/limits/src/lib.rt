@@ -1,0 +1,70 @@
+// Document 01's kinds, results and limits as constants of the code. What each is called in the specifications is in
+// crates/rules/specs/Limits.antt.
+
+// The kinds of plan; CLEAR_ALL may also speak of every kind.
+pub const FLIGHT: u8 = 0;
+
+pub const FENCE: u8 = 1;
+
+pub const RALLY: u8 = 2;
+
+pub const EVERY_KIND: u8 = 255;
+
+// The results of an ACK.
+pub const ACCEPTED: u8 = 0;
+
+pub const UNSUPPORTED_FRAME: u8 = 2;
+
+pub const UNSUPPORTED: u8 = 3;
+
+pub const NO_SPACE: u8 = 4;
+
+pub const INVALID: u8 = 5;
+
+pub const INVALID_PARAM1: u8 = 6;
+
+pub const INVALID_PARAM2: u8 = 7;
+
+pub const INVALID_X: u8 = 10;
+
+pub const INVALID_Y: u8 = 11;
+
+pub const INVALID_Z: u8 = 12;
+
+pub const INVALID_SEQUENCE: u8 = 13;
+
+pub const DENIED: u8 = 14;
+
+pub const CANCELLED: u8 = 15;
+
+// The command of a jump, how many of them a flight plan has at most, how often one runs, and how many one search follows.
+pub const JUMP: u16 = 177;
+
+pub const MAX_JUMPS: u16 = 15;
+
+// A count for each of them.
+pub const JUMP_COUNTS: usize = MAX_JUMPS as usize;
+
+pub const MAX_RUNS: u16 = 32767;
+
+pub const MAX_FOLLOWED: u16 = 64;
+
+// An upload's timer, and how often it asks again.
+pub const EXPIRY_MS: u32 = 250;
+
+pub const MAX_REPEATS: u8 = 5;
+
+// Coordinates, in ten-millionths of a degree.
+pub const X_LIMIT: i32 = 900_000_000;
+
+pub const Y_LIMIT: i32 = 1_800_000_000;
+
+// Return points of a fence.
+pub const MAX_RETURN_POINTS: u16 = 1;
+
+// Bytes: of an item, of the store, of the reply buffer.
+pub const ITEM_BYTES: usize = 38;
+
+pub const STORE_BYTES: usize = 26752;
+
+pub const REPLY_BYTES: usize = 54;
