@@ -78,11 +78,13 @@ fn repeated(upload: Upload, repeats: u8) -> Upload {
 }
 
 fn repeated_in(plan: Plan, repeats: u8) -> Plan {
+    let before = plan.upload;
+    let upload = repeated(before, repeats);
     Plan {
         len: plan.len,
         half: plan.half,
         number: plan.number,
-        upload: repeated(plan.upload, repeats),
+        upload,
     }
 }
 

@@ -10,7 +10,7 @@ use lib.Ieee.{fin}
 use Rattle.rules.specs.Limits.{flight, fence, rally, storeBytes, replyBytesMin}
 use Rattle.rules.specs.Payload.{Bytes}
 use Rattle.rules.specs.Layouts.{requestListId}
-use Rattle.rules.specs.Messages.{Station, station, Item, current, count, ack, requestInt, statustext, itemOf}
+use Rattle.rules.specs.Messages.{Station, station, Item, current, count, ack, requestInt, statustext}
 use Rattle.rules.specs.Model.{Model, Shown, Upload, idle, running, fresh, uploadOf}
 use Rattle.rules.specs.NextCommand.{fly, wait, near, turn, speed, servo, finished, stuck}
 use Rattle.rules.specs.Calls.{message}
@@ -28,9 +28,12 @@ text =
 abbrev noRuns : List ℕ
 noRuns = 0 ∷ 0 ∷ 0 ∷ 0 ∷ 0 ∷ 0 ∷ 0 ∷ 0 ∷ 0 ∷ 0 ∷ 0 ∷ 0 ∷ 0 ∷ 0 ∷ 0 ∷ []
 
--- the bytes of the stored waypoint with this number
+-- the stored bytes of the waypoint and of the circle with this number
 abbrev storedWaypoint : (seq : ℕ) → Bytes
 storedWaypoint seq = replicate 28 0 ++ (seq ∷ 0 ∷ 16 ∷ 0 ∷ 0 ∷ 0 ∷ 3 ∷ 0 ∷ 1 ∷ 0 ∷ [])
+
+abbrev storedCircle : (seq : ℕ) → Bytes
+storedCircle seq = 0 ∷ 0 ∷ 0x80 ∷ 0x3f ∷ replicate 24 0 ++ (seq ∷ 0 ∷ 0x8b ∷ 0x13 ∷ 0 ∷ 0 ∷ 3 ∷ 0 ∷ 1 ∷ 1 ∷ [])
 
 abbrev rallyPoint : (seq : ℕ) → Item
 rallyPoint seq = itemAs rally 5100 seq 0 0 0
@@ -50,7 +53,7 @@ loaded =
 
 -- the tablet uploads three items of fence, and the first is taken
 abbrev fenceRun : (started repeats : ℕ) → Upload
-fenceRun started repeats = running (record { station = tablet; count = 3; taken = itemOf (circle 0) ∷ []; started = started; repeats = repeats })
+fenceRun started repeats = running (record { station = tablet; count = 3; taken = storedCircle 0 ∷ []; started = started; repeats = repeats })
 
 abbrev replacing : (started repeats : ℕ) → Model
 replacing started repeats = record { shown = loaded; uploads = idle ∷ fenceRun started repeats ∷ idle ∷ [] }
@@ -90,7 +93,7 @@ guards =
     ∷ (answer (hears (station 2 1) 2 0) is answer (says (count tablet 0 0 0)))
     -- repeats are 0 after a taken item: five requests again, and the sixth expiry ends the upload
     ∷ (upload (uploadOf (run (replacing 100 5) (sendsItem tablet 200 (circle 1) ∷ [])) fence)
-    is upload (running (record { station = tablet; count = 3; taken = itemOf (circle 0) ∷ itemOf (circle 1) ∷ []; started = 200; repeats = 0 })))
+    is upload (running (record { station = tablet; count = 3; taken = storedCircle 0 ∷ storedCircle 1 ∷ []; started = 200; repeats = 0 })))
     ∷ (replies (answers (replacing 100 5) (sendsItem tablet 200 (circle 1) ∷ ticks 450 fence ∷ ticks 700 fence ∷ ticks 950 fence ∷ ticks 1200 fence ∷ ticks 1450 fence ∷ ticks 1699 fence ∷ ticks 1700 fence ∷ ticks 1950 fence ∷ []))
     is replies (says (requestInt tablet 2 1) ∷ says (requestInt tablet 2 1) ∷ says (requestInt tablet 2 1) ∷ says (requestInt tablet 2 1) ∷ says (requestInt tablet 2 1) ∷ says (requestInt tablet 2 1) ∷ silent ∷ says (ack tablet 15 1 0) ∷ silent ∷ []))
     -- ACK 15 has number 0 on a plan that has a number, and so has an ACK with a reason; the plan stands
@@ -138,7 +141,7 @@ guards =
     ∷ (answer (after fresh (uploads fence 4 (vertex 0 f3 ∷ vertex 1 f3 ∷ circle 2 ∷ [])) (sendsItem tablet 0 (vertex 3 f3))) is answer (verdict 5 1))
     ∷ (answer (after fresh (uploads fence 3 (vertex 0 f3 ∷ vertex 1 f3 ∷ [])) (sendsItem tablet 0 (vertex 2 f3))) is answer (says (ack tablet 0 1 1)))
     ∷ (answer (after (replacing 100 0) (sendsItem tablet 0 (vertex 1 f3) ∷ sendsItem tablet 0 (vertex 2 f3) ∷ []) (asksForList tablet fence)) is answer (says (count tablet 1 1 16909060)))
-    -- two return points are 5, one is none too many
+    -- one return point is valid, two are 5
     ∷ (answer (judges fence (returnPoint 0)) is answer (says (ack tablet 0 1 1)))
     ∷ (answer (after fresh (uploads fence 2 (returnPoint 0 ∷ [])) (sendsItem tablet 0 (returnPoint 1))) is answer (verdict 5 1))
     -- Wait 2.5 seconds, Near 10 metres, Turn by 90 degrees, Speed 7.5 and -1.5, Servo 5 at 1500
