@@ -86,7 +86,7 @@ pub record InRange (size : ℕ) (r : Run) : Type 0 where
   pub nextBelow : r .next < r .count
   pub countWithin : r .count ≤ size
 
-pub run-in-range : (size : ℕ) (r : Run) → runRanged size r ≡ true → InRange size r
+run-in-range : (size : ℕ) (r : Run) → runRanged size r ≡ true → InRange size r
 run-in-range size r e =
     let some = leb 1 (r .count) in
     let within = leb (r .count) size in

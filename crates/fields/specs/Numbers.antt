@@ -20,7 +20,7 @@ pub as-number : {r : ℕ} (at : ℕ) (p : Bytes) → r ≡ getD p at 0 → r ≡
 as-number at p e = e ∙ sym (number-one at p)
 
 -- a number is its low byte and the number above it
-pub number-more : (size at : ℕ) (p : Bytes) → numberAt (suc size) at p ≡ getD p at 0 + 256 * numberAt size (at + 1) p
+number-more : (size at : ℕ) (p : Bytes) → numberAt (suc size) at p ≡ getD p at 0 + 256 * numberAt size (at + 1) p
 unfolding numberAt
 number-more size at p = rw add-one
 

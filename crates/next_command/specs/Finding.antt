@@ -32,7 +32,7 @@ settledAs (Follows j target counted) counts = nowhere stuck
 abbrev pub countedAs : List ℕ → (j : ℕ) (counted : Bool) → List ℕ
 countedAs counts j counted = set counts j (cond counted (getD counts j 0 + 1) (getD counts j 0))
 
-pub runs-are : (w : values.Whole) (c : ℕ) → runsAfter w c ≡ cond (isCounted w) (c + 1) c
+runs-are : (w : values.Whole) (c : ℕ) → runsAfter w c ≡ cond (isCounted w) (c + 1) c
 unfolding runsAfter isCounted
 runs-are (integer (pos r)) c = refl
 runs-are (integer (negsuc r)) c = refl

@@ -106,7 +106,7 @@ module _ (p : Plan) where
 
 -- ---- halves of the whole state
 
-abbrev pub HalvesOk : State → State → Type 0
+abbrev HalvesOk : State → State → Type 0
 HalvesOk st st′ = (j : ℕ) → isKnown j ≡ true → HalfOk (planOf st j) (planOf st′ j)
 
 halves-same : (st : State) → HalvesOk st st

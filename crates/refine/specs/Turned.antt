@@ -38,7 +38,7 @@ unfolding isOthers othersUpload uploadIn
 others-shown from s half k Idle = refl
 others-shown from s half k (Running r) = refl
 
-pub own-shown : (from : Station) (s : Bytes) (half : Bool) (k : ℕ) (u : Upload) → isOwn from (uploadIn s half k u) ≡ ownUpload from u
+own-shown : (from : Station) (s : Bytes) (half : Bool) (k : ℕ) (u : Upload) → isOwn from (uploadIn s half k u) ≡ ownUpload from u
 unfolding isOwn ownUpload uploadIn
 own-shown from s half k Idle = refl
 own-shown from s half k (Running r) = refl

@@ -45,7 +45,7 @@ roomRefusal ranged store reply =
     cond (ltb store storeBytes) shortStore (cond (not ranged) outOfRange (cond (ltb reply replyBytesMin) shortReply 0))
 
 -- a call that says h where it is not refused for room
-abbrev pub roomFor : (ranged : Bool) (store reply : ℕ) → Heard → Heard
+abbrev roomFor : (ranged : Bool) (store reply : ℕ) → Heard → Heard
 roomFor ranged store reply h =
     cond (ltb store storeBytes) (refuses shortStore) (cond (not ranged) (refuses outOfRange) (cond (ltb reply replyBytesMin) (refuses shortReply) h))
 

@@ -44,7 +44,7 @@ last-zero bs (suc k) pos h e =
     let b : getD bs k 0 ≡ 0 = rw back at e in
     rw (back, take-suc bs k 0 (omega arith), b) (zero-last (take k bs))
 
-pub last-other : (bs : Bytes) (n : ℕ) → 0 < n → n ≤ length bs → (getD bs (n - 1) 0 ≡ 0 → ⊥) → significant (take n bs) ≡ n
+last-other : (bs : Bytes) (n : ℕ) → 0 < n → n ≤ length bs → (getD bs (n - 1) 0 ≡ 0 → ⊥) → significant (take n bs) ≡ n
 last-other bs zero pos h e = absurd (omega arith)
 last-other bs (suc k) pos h e =
     let back : suc k - 1 ≡ k = omega arith in

@@ -64,7 +64,7 @@ outside id n41 n42 n43 n44 n45 n47 n51 n73 n253 =
     }
 
 -- what holds at the nine ids of the table and at every id that has no row holds at every id
-pub by-row : (P : ℕ → Type 0) → P 41 → P 42 → P 43 → P 44 → P 45 → P 47 → P 51 → P 73 → P 253 → ((id : ℕ) → NoRow id → P id) → (id : ℕ) → P id
+by-row : (P : ℕ → Type 0) → P 41 → P 42 → P 43 → P 44 → P 45 → P 47 → P 51 → P 73 → P 253 → ((id : ℕ) → NoRow id → P id) → (id : ℕ) → P id
 by-row P p41 p42 p43 p44 p45 p47 p51 p73 p253 none id =
     split P 41 id p41 (λ n41. split P 42 id p42 (λ n42. split P 43 id p43 (λ n43. split P 44 id p44 (λ n44. split P 45 id p45 (λ n45.
     split P 47 id p47 (λ n47. split P 51 id p51 (λ n51. split P 73 id p73 (λ n73. split P 253 id p253 (λ n253.

@@ -43,7 +43,7 @@ run-ranged kind r e =
       repeats = leb-true (r .repeats) maxRepeats (abc .1);
     }
 
-pub ranged-run : (kind : ℕ) (r : Run) → RunRanged kind r → uploadInRange kind (running r) ≡ true
+ranged-run : (kind : ℕ) (r : Run) → RunRanged kind r → uploadInRange kind (running r) ≡ true
 unfolding uploadInRange
 ranged-run kind r h =
     rw (le-leb 1 (r .count) (h .some), le-leb (r .count) (sizeOf kind) (h .most), lt-ltb (expected r) (r .count) (h .next)) (le-leb (r .repeats) maxRepeats (h .repeats))
@@ -189,7 +189,7 @@ pub step-kept : (m : Model) (c : Call) → Formed m → Formed (step m c .model)
 unfolding step
 step-kept m c f = act-kept m f (heard (inRange m) c) (heard-known (inRange m) c)
 
-pub run-kept : (m : Model) (cs : List Call) → Formed m → Formed (run m cs)
+run-kept : (m : Model) (cs : List Call) → Formed m → Formed (run m cs)
 unfolding run
 run-kept m [] f = f
 run-kept m (c ∷ cs) f = run-kept (step m c .model) cs (step-kept m c f)

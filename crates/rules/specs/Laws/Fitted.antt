@@ -15,7 +15,7 @@ use Rattle.rules.specs.Items.{jumpsAmong, fault}
 use Rattle.rules.specs.Model.{Plan, Run, Upload, idle, running, Shown, Model, noPlan, planOf, uploadOf, lengthOf, fresh, nextNumber, elapsed, expected, isLast, whole, wholeOk, isOthers, isOwn, withPlan, put, emptied, empty, choose, inRange}
 use Rattle.rules.specs.NextCommand.{Found, nowhere, found, next, reach, advance}
 use Rattle.rules.specs.Calls.{Call, Request, chooses, asksList, announces, clears, acknowledges, asksItem, brings, Heard, refuses, request, expiry, commandDone, heard}
-use Rattle.rules.specs.Step.{Stepped, withUpload, idleAt, onCount, onValidItem, onItem, onAck, onClear, anyOthers, covered, onList, onRequest, onSetCurrent, onKnown, kindOk, onMessage, onTimer, act, step, run}
+use Rattle.rules.specs.Step.{Stepped, withUpload, idleAt, onCount, onValidItem, onItem, onAck, onClear, anyOthers, covered, onList, onRequest, onSetCurrent, onKnown, kindOk, onMessage, onTimer, act, step}
 use Rattle.rules.specs.Laws.Tests.{either}
 use Rattle.rules.specs.Laws.Lists.{each-set, each-append}
 use Rattle.rules.specs.Laws.Layout.{pack-bytes}
@@ -175,11 +175,6 @@ fresh-fits = record { plans = plans; uploads = uploads }
     uploads (suc zero) = tt
     uploads (suc (suc zero)) = tt
     uploads (suc (suc (suc kind))) = tt
-
-pub run-fits : (m : Model) (cs : List Call) → ModelFits m → CallsFit cs → ModelFits (run m cs)
-unfolding run
-run-fits m [] fits calls = fits
-run-fits m (c ∷ cs) fits calls = run-fits (step m c .model) cs (step-fits m c fits (calls .0)) (calls .1)
 
 -- ---- lists of calls
 
