@@ -16,8 +16,8 @@ use crate::say::ack;
 use limits::FLIGHT;
 use limits::INVALID_SEQUENCE;
 use plan::State;
+use plan::number_shown;
 use states::chosen_state;
-use states::number_shown;
 
 // REQUEST_LIST: the length of the plan and its number.
 pub fn on_list(state: State, kind: u8, system: u8, component: u8, reply: &mut [u8]) -> Served

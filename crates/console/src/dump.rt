@@ -1,5 +1,4 @@
 // The lines of a dump: the state, and the items of plans and uploads.
-ghost use Prim.Native.Nat.{_≤_};
 use crate::print::begin;
 use crate::print::end;
 use crate::print::hex_bytes;
@@ -15,36 +14,8 @@ use plan::Plan;
 use plan::Run;
 use plan::State;
 use plan::Upload;
-
-// An empty plan shows number 0.
-fn shown(plan: Plan) -> u32 {
-    if plan.len == 0 {
-        return 0;
-    }
-    plan.number
-}
-
-// The item place at which a kind begins, in either half.
-fn first_place(kind: u8) -> usize
-    ensures { λ r. ⌜ r ≤ 320 ⌝ }
-{
-    if kind == 0 {
-        return 0;
-    }
-    if kind == 1 {
-        return 256;
-    }
-    320
-}
-
-// The store's byte at which an item begins: 38 bytes a place, 352 places a half.
-fn place_of(kind: u8, half: bool, n: u16) -> usize {
-    let place = first_place(kind) + n as usize;
-    if half {
-        return (352 + place) * 38;
-    }
-    place * 38
-}
+use plan::number_shown;
+use plan::places::place_at;
 
 // The line of the item with a number: its 38 bytes.
 fn item_line(
@@ -56,7 +27,7 @@ fn item_line(
     n: u16,
     store: &[u8],
 ) -> usize {
-    let first = place_of(kind, half, n);
+    let first = place_at(kind, half, n);
     let at = begin(out, at, letter, &[kind as u64, n as u64]);
     let at = push(out, at, b' ');
     let at = hex_bytes(
@@ -126,7 +97,7 @@ fn plan_line(out: &mut [u8; 8192], at: usize, kind: u8, plan: Plan) -> usize {
         kind as u64,
         plan.len as u64,
         plan.number as u64,
-        shown(plan) as u64,
+        number_shown(plan) as u64,
         plan.half as u64,
     ];
     let at = begin(out, at, b'k', &list);

@@ -20,11 +20,11 @@ use Rattle.plan.specs.declared.State.{State}
 use Rattle.plan.specs.declared.Plan.{Plan}
 use Rattle.plan.specs.declared.Upload.{Upload}
 use Rattle.plan.specs.Places.{itemAt, length-items, items-at}
-use Rattle.plan.specs.View.{emptyPlan, planOf, view}
+use Rattle.plan.specs.View.{emptyPlan, planOf, view, numberShown}
 use Rattle.upload.specs.declared.Say.the-variants.{Silent}
 use Rattle.upload.specs.declared.Turned.{Turned}
 use Rattle.upload.specs.Turns.{emptied, renews, othersUpload, ackTurned, ownUpload, keeps, ended}
-use Rattle.states.specs.Whole.{answerOf, turnedState, turns, clearedState, othersAmong, clearDone, numberShown, listDone, requestDone, chosenState, chooseDone, knownDone, messageDone}
+use Rattle.states.specs.Whole.{answerOf, turnedState, turns, clearedState, othersAmong, clearDone, listDone, requestDone, chosenState, chooseDone, knownDone, messageDone}
 use Rattle.refine.specs.Views.{plan-shown, upload-shown, length-shown, same-state}
 use Rattle.refine.specs.Turned.{Agree, others-shown, empties, count-agrees, ack-agrees}
 use Rattle.refine.specs.Items.{item-agrees}

@@ -11,9 +11,8 @@ use Rattle.rules.specs.Model.{noCounts}
 use Rattle.rules.specs.Calls.{Request, chooses, asksList, announces, clears, acknowledges, asksItem, brings}
 use Rattle.rules.specs.Step.{Answer, silent, says, covered, kindOk, currentField, currentOf, refusalText}
 use Rattle.plan.specs.declared.State.{State}
-use Rattle.plan.specs.declared.Plan.{Plan}
 use Rattle.plan.specs.Places.{itemAt}
-use Rattle.plan.specs.View.{planOf}
+use Rattle.plan.specs.View.{planOf, numberShown}
 use Rattle.upload.specs.declared.Say.{Say}
 use Rattle.upload.specs.declared.Say.the-variants.{Silent, Ack, Ask}
 use Rattle.upload.specs.declared.Turned.{Turned}
@@ -64,9 +63,6 @@ clearDone st s from kind =
     (gives (clearedState st (covered kind)) s (says (ack from accepted kind 0)))
 
 -- ---- reading and choosing
-
-unfoldable pub numberShown : Plan → ℕ
-numberShown p = cond (eqb (p .len) 0) 0 (p .number)
 
 unfoldable pub listDone : State → Bytes → Station → (kind : ℕ) → Done
 listDone st s from kind = gives st s (says (count from (planOf st kind .len) kind (numberShown (planOf st kind))))

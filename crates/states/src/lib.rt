@@ -9,13 +9,12 @@ ghost use Rattle.rules.specs.Calls.{isKnown};
 ghost use Rattle.rules.specs.Step.{covered};
 ghost use Rattle.plan.specs.View.{planOf};
 ghost use Rattle.upload.specs.Turns.{emptied, renews};
-ghost use Rattle.states.specs.Whole.{turnedState, clearedState, othersAmong, numberShown, chosenState};
+ghost use Rattle.states.specs.Whole.{turnedState, clearedState, othersAmong, chosenState};
 use limits::EVERY_KIND;
 use limits::FENCE;
 use limits::FLIGHT;
 use limits::JUMP_COUNTS;
 use limits::RALLY;
-use plan::Plan;
 use plan::State;
 use upload::Say;
 use upload::Turned;
@@ -93,16 +92,6 @@ pub fn others_among(state: State, system: u8, component: u8, kind: u8) -> bool
     let plan = state.plans[k];
     let upload = plan.upload;
     others_upload(upload, system, component)
-}
-
-// The plan number that a station sees: an empty plan shows 0.
-pub fn number_shown(plan: Plan) -> u32
-    ensures { λ r. ⌜ r ≡ numberShown plan ⌝ }
-{
-    if plan.len == 0 {
-        return 0;
-    }
-    plan.number
 }
 
 // The state with an item made current, not yet begun.

@@ -8,9 +8,9 @@ use Rattle.rules.specs.Payload.{Bytes}
 use Rattle.rules.specs.Messages.{station, count}
 use Rattle.rules.specs.Layouts.{countId}
 use Rattle.plan.specs.declared.State.{State}
-use Rattle.plan.specs.View.{planOf}
+use Rattle.plan.specs.View.{planOf, numberShown}
 use Rattle.reply.specs.Written.{Wrote}
-use Rattle.states.specs.Whole.{numberShown, listDone}
+use Rattle.states.specs.Whole.{listDone}
 use Rattle.answers.specs.Answered.{AnsweredBy, served, written-answered}
 use Rattle.answers.proofs.show.on_list.Statement.{statement}
 use Rattle.answers.proofs.show.on_list.Tie as tie

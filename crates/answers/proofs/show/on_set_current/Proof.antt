@@ -12,9 +12,9 @@ use Rattle.rules.specs.Step.{refusalText}
 use Rattle.wire.specs.declared.structs.Statustext.{Statustext}
 use Rattle.wire.specs.Structs.{statustextMessage}
 use Rattle.plan.specs.declared.State.{State}
-use Rattle.plan.specs.View.{planOf}
+use Rattle.plan.specs.View.{planOf, numberShown}
 use Rattle.reply.specs.Written.{Wrote}
-use Rattle.states.specs.Whole.{numberShown, chosenState, chooseDone}
+use Rattle.states.specs.Whole.{chosenState, chooseDone}
 use Rattle.answers.specs.Answered.{AnsweredBy, served, written-answered}
 use Rattle.answers.proofs.show.on_set_current.Statement.{statement}
 use Rattle.answers.proofs.show.on_set_current.Tie as tie

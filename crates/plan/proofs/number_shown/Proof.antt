@@ -1,11 +1,11 @@
 -- By the test of the length.
 use mathlib.Core.Path.{_≡_}
 use borrow.Author.Tests.{eq-eqb, ne-eqb}
 use Rattle.plan.specs.declared.Plan.{Plan}
-use Rattle.states.specs.Whole.{numberShown}
+use Rattle.plan.specs.View.{numberShown}
 use borrow.Author.Needs.{needs}
-use Rattle.states.proofs.number_shown.Statement.{statement}
-use Rattle.states.proofs.number_shown.Tie as tie
+use Rattle.plan.proofs.number_shown.Statement.{statement}
+use Rattle.plan.proofs.number_shown.Tie as tie
 
 none : (p : Plan) → p .len ≡ 0 → 0 ≡ numberShown p
 unfolding numberShown
