@@ -1,7 +1,7 @@
 -- Every message commutes with the view.
 use Prim.Native.Nat.{ℕ, _≤_, _<_}
 use native.Mathlib.Omega.{arith}
-use mathlib.Core.Path.{_≡_, refl, sym, ap, _∙_}
+use mathlib.Core.Path.{_≡_, refl, sym, ap, ap₂, _∙_}
 use mathlib.Core.List.{List, [], _∷_}
 use mathlib.Core.Bool.{Bool, true, false, not, cond, _&&_, _||_}
 use lib.ListN.{length, getD, length-set, List·getD-eq-default}
@@ -19,8 +19,8 @@ use Rattle.rules.specs.Laws.Kinds.{covered-known}
 use Rattle.plan.specs.declared.State.{State}
 use Rattle.plan.specs.declared.Plan.{Plan}
 use Rattle.plan.specs.declared.Upload.{Upload}
-use Rattle.plan.specs.Places.{itemAt, length-items, items-at}
-use Rattle.plan.specs.View.{emptyPlan, planOf, view, numberShown}
+use Rattle.plan.specs.Places.{itemAt, items-at}
+use Rattle.plan.specs.View.{emptyPlan, planOf, view}
 use Rattle.upload.specs.declared.Say.the-variants.{Silent}
 use Rattle.upload.specs.declared.Turned.{Turned}
 use Rattle.upload.specs.Turns.{emptied, renews, othersUpload, ackTurned, ownUpload, keeps, ended}
@@ -63,11 +63,10 @@ module _ (st : State) (s : Bytes) (three : length (st .plans) ≡ length kinds) 
 
   -- ---- reading and choosing
 
-  number-shown : (k : ℕ) → isKnown k ≡ true → shownNumber (model.planOf (view st s .shown) k) ≡ numberShown (planOf st k)
-  unfolding shownNumber numberShown
-  number-shown k known =
-      let p = planOf st k in
-      ap shownNumber (plan-shown st s k known) ∙ ap (λ (n : ℕ). cond (eqb n 0) 0 (p .number)) (length-items s (p .half) k (p .len))
+  number-shown :
+      (k : ℕ) → isKnown k ≡ true
+      → shownNumber (model.lengthOf (view st s .shown) k) (model.planOf (view st s .shown) k .number) ≡ shownNumber (planOf st k .len) (planOf st k .number)
+  number-shown k known = ap₂ shownNumber (length-shown st s k known) (ap (λ (p : model.Plan). p .number) (plan-shown st s k known))
 
   list-agrees : (from : Station) (k : ℕ) → isKnown k ≡ true → Agree (listDone st s from k) (onList (view st s) from k)
   unfolding listDone onList
@@ -75,7 +74,7 @@ module _ (st : State) (s : Bytes) (three : length (st .plans) ≡ length kinds) 
       record {
         model = refl;
         answer =
-            ap (λ (n : ℕ). says (count from n k (numberShown (planOf st k)))) (sym (length-shown st s k known))
+            ap (λ (n : ℕ). says (count from n k (shownNumber (planOf st k .len) (planOf st k .number)))) (sym (length-shown st s k known))
             ∙ ap (λ (n : ℕ). says (count from (model.lengthOf (view st s .shown) k) k n)) (sym (number-shown k known));
       }
 
@@ -102,7 +101,7 @@ module _ (st : State) (s : Bytes) (three : length (st .plans) ≡ length kinds) 
   choose-agrees : (seq : ℕ) → Agree (chooseDone st s seq) (onSetCurrent (view st s) seq)
   unfolding chooseDone onSetCurrent choose
   choose-agrees seq =
-      rw (length-shown st s flight refl, number-shown flight refl, number-shown fence refl, number-shown rally refl)
+      rw (number-shown flight refl, number-shown fence refl, number-shown rally refl, length-shown st s flight refl)
       (either₂ Agree (ltb seq (planOf st flight .len)) (λ t. record { model = chosen-view seq; answer = refl }) (λ t. record { model = refl; answer = refl }))
 
   -- ---- an ACK of any kind

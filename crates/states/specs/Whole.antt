@@ -7,12 +7,12 @@ use lib.Dec.{eqb, ltb}
 use Rattle.rules.specs.Limits.{flight, sizeOf, accepted, unsupported, invalidSequence, denied}
 use Rattle.rules.specs.Payload.{Bytes}
 use Rattle.rules.specs.Messages.{Station, current, count, ack, requestInt, itemInt, itemIn}
-use Rattle.rules.specs.Model.{noCounts}
+use Rattle.rules.specs.Model.{noCounts, shownNumber}
 use Rattle.rules.specs.Calls.{Request, chooses, asksList, announces, clears, acknowledges, asksItem, brings}
 use Rattle.rules.specs.Step.{Answer, silent, says, covered, kindOk, currentField, currentOf, refusalText}
 use Rattle.plan.specs.declared.State.{State}
 use Rattle.plan.specs.Places.{itemAt}
-use Rattle.plan.specs.View.{planOf, numberShown}
+use Rattle.plan.specs.View.{planOf}
 use Rattle.upload.specs.declared.Say.{Say}
 use Rattle.upload.specs.declared.Say.the-variants.{Silent, Ack, Ask}
 use Rattle.upload.specs.declared.Turned.{Turned}
@@ -65,7 +65,7 @@ clearDone st s from kind =
 -- ---- reading and choosing
 
 unfoldable pub listDone : State → Bytes → Station → (kind : ℕ) → Done
-listDone st s from kind = gives st s (says (count from (planOf st kind .len) kind (numberShown (planOf st kind))))
+listDone st s from kind = gives st s (says (count from (planOf st kind .len) kind (shownNumber (planOf st kind .len) (planOf st kind .number))))
 
 unfoldable pub requestDone : State → Bytes → Station → (kind seq : ℕ) → Done
 requestDone st s from kind seq =
@@ -78,7 +78,7 @@ chosenState st seq = record { plans = st .plans; current = seq; begun = false; c
 
 unfoldable pub chooseDone : State → Bytes → (seq : ℕ) → Done
 chooseDone st s seq =
-    cond (ltb seq (planOf st flight .len)) (gives (chosenState st seq) s (says (currentOf seq (planOf st flight .len) (λ (kind : ℕ). numberShown (planOf st kind))))) (gives st s (says refusalText))
+    cond (ltb seq (planOf st flight .len)) (gives (chosenState st seq) s (says (currentOf seq (planOf st flight .len) (λ (kind : ℕ). shownNumber (planOf st kind .len) (planOf st kind .number))))) (gives st s (says refusalText))
 
 -- ---- every message of a kind that it may have
 

@@ -1,18 +1,18 @@
 -- By the test of the length.
 use mathlib.Core.Path.{_≡_}
 use borrow.Author.Tests.{eq-eqb, ne-eqb}
+use Rattle.rules.specs.Model.{shownNumber}
 use Rattle.plan.specs.declared.Plan.{Plan}
-use Rattle.plan.specs.View.{numberShown}
 use borrow.Author.Needs.{needs}
 use Rattle.plan.proofs.number_shown.Statement.{statement}
 use Rattle.plan.proofs.number_shown.Tie as tie
 
-none : (p : Plan) → p .len ≡ 0 → 0 ≡ numberShown p
-unfolding numberShown
+none : (p : Plan) → p .len ≡ 0 → 0 ≡ shownNumber (p .len) (p .number)
+unfolding shownNumber
 none p e = simp (eq-eqb (p .len) 0 e)
 
-some : (p : Plan) → (p .len ≡ 0 → ⊥) → p .number ≡ numberShown p
-unfolding numberShown
+some : (p : Plan) → (p .len ≡ 0 → ⊥) → p .number ≡ shownNumber (p .len) (p .number)
+unfolding shownNumber
 some p e = simp (ne-eqb (p .len) 0 e)
 
 returns : tie.Need-returns

@@ -23,7 +23,7 @@ use Rattle.rules.specs.Fitting.{Fits, StationFits, PlanFits, RunFits, Up
 
 -- ---- numbers that are written
 
-shown-fits : (p : Plan) → PlanFits p → shownNumber p < clockValues
+shown-fits : (p : Plan) → PlanFits p → shownNumber (length (p .items)) (p .number) < clockValues
 unfolding shownNumber
 shown-fits p h = either (λ (k : ℕ). k < clockValues) (eqb (length (p .items)) 0) (λ e. omega arith) (λ e. h .number)
 
@@ -124,7 +124,7 @@ module _ (m : Model) (fits : ModelFits m) (ranged : inRange m ≡ true) (from : 
 
   list-good : Good (onList m from kind)
   unfolding onList
-  list-good = count-fits from (lengthOf (m .shown) kind) kind (shownNumber (planOf (m .shown) kind)) sender (omega (arith, length-fits)) kind-small (shown-fits (planOf (m .shown) kind) (fits .plans kind))
+  list-good = count-fits from (lengthOf (m .shown) kind) kind (shownNumber (lengthOf (m .shown) kind) (planOf (m .shown) kind .number)) sender (omega (arith, length-fits)) kind-small (shown-fits (planOf (m .shown) kind) (fits .plans kind))
 
   request-good : (seq : ℕ) → Good (onRequest m from kind seq)
   unfolding onRequest
@@ -150,7 +150,7 @@ unfolding onSetCurrent choose
 current-good m fits ranged seq =
     let parts = both (leb (lengthOf (m .shown) flight) (sizeOf flight)) (uploadInRange flight (uploadOf m flight)) (ranged-kind m ranged flight refl) in
     let most : lengthOf (m .shown) flight ≤ sizeOf flight = leb-true (lengthOf (m .shown) flight) (sizeOf flight) (parts .0) in
-    let number : (kind : ℕ) → shownNumber (planOf (m .shown) kind) < clockValues = λ kind. shown-fits (planOf (m .shown) kind) (fits .plans kind) in
+    let number : (kind : ℕ) → shownNumber (lengthOf (m .shown) kind) (planOf (m .shown) kind .number) < clockValues = λ kind. shown-fits (planOf (m .shown) kind) (fits .plans kind) in
     either Good (ltb seq (lengthOf (m .shown) flight))
     (λ e. let below : seq < lengthOf (m .shown) flight = ltb-true seq (lengthOf (m .shown) flight) e in
     current-fits seq (lengthOf (m .shown) flight) 0 0 _ _ _ (omega arith) (omega arith) (omega arith) (omega arith) (number flight) (number fence) (number rally))

@@ -7,15 +7,16 @@ use Rattle.rules.specs.Limits.{replied, replyBytesMin}
 use Rattle.rules.specs.Payload.{Bytes}
 use Rattle.rules.specs.Messages.{station, count}
 use Rattle.rules.specs.Layouts.{countId}
+use Rattle.rules.specs.Model.{shownNumber}
 use Rattle.plan.specs.declared.State.{State}
-use Rattle.plan.specs.View.{planOf, numberShown}
+use Rattle.plan.specs.View.{planOf}
 use Rattle.reply.specs.Written.{Wrote}
 use Rattle.states.specs.Whole.{listDone}
 use Rattle.answers.specs.Answered.{AnsweredBy, served, written-answered}
 use Rattle.answers.proofs.show.on_list.Statement.{statement}
 use Rattle.answers.proofs.show.on_list.Tie as tie
 
-listed : (st : State) (system component kind number : ℕ) (b b′ : Bytes) (n : ℕ) → replyBytesMin ≤ length b → number ≡ numberShown (planOf st kind)
+listed : (st : State) (system component kind number : ℕ) (b b′ : Bytes) (n : ℕ) → replyBytesMin ≤ length b → number ≡ shownNumber (planOf st kind .len) (planOf st kind .number)
     → Wrote (count (station system component) (planOf st kind .len) kind number) b b′ n
     → (store : Bytes) → AnsweredBy (listDone st store (station system component) kind) b b′ (served st replied countId n)
 unfolding listDone

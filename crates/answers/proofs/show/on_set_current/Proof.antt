@@ -11,8 +11,9 @@ use Rattle.rules.specs.Layouts.{currentId, statustextId}
 use Rattle.rules.specs.Step.{refusalText}
 use Rattle.wire.specs.declared.structs.Statustext.{Statustext}
 use Rattle.wire.specs.Structs.{statustextMessage}
+use Rattle.rules.specs.Model.{shownNumber}
 use Rattle.plan.specs.declared.State.{State}
-use Rattle.plan.specs.View.{planOf, numberShown}
+use Rattle.plan.specs.View.{planOf}
 use Rattle.reply.specs.Written.{Wrote}
 use Rattle.states.specs.Whole.{chosenState, chooseDone}
 use Rattle.answers.specs.Answered.{AnsweredBy, served, written-answered}
@@ -21,7 +22,7 @@ use Rattle.answers.proofs.show.on_set_current.Tie as tie
 
 module _ (st : State) (seq : ℕ) (b b′ : Bytes) (n : ℕ) (enough : replyBytesMin ≤ length b) where
   chosen-now : (chosen : State) (mission fences rallies : ℕ) → seq < planOf st flight .len → chosen ≡ chosenState st seq
-      → mission ≡ numberShown (planOf st flight) → fences ≡ numberShown (planOf st fence) → rallies ≡ numberShown (planOf st rally)
+      → mission ≡ shownNumber (planOf st flight .len) (planOf st flight .number) → fences ≡ shownNumber (planOf st fence .len) (planOf st fence .number) → rallies ≡ shownNumber (planOf st rally .len) (planOf st rally .number)
       → Wrote (current seq (planOf st flight .len) 0 0 mission fences rallies) b b′ n
       → (store : Bytes) → AnsweredBy (chooseDone st store seq) b b′ (served chosen replied currentId n)
   unfolding chooseDone
