@@ -34,7 +34,7 @@ use upload::uploads::is_from;
 
 // What an item is to its kind's upload: refused with a result, not the number expected, invalid with a result, or the valid
 // next item of a running upload.
-pub enum Judged {
+enum Judged {
     Refused(u8),
     OutOfTurn(u16),
     Invalid(u8),

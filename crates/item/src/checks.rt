@@ -21,7 +21,7 @@ ghost use Rattle.rules.specs.Values.{wholeOf, wholeFrom};
 ghost use Rattle.item.specs.Patterns.{itemFor, patterns};
 ghost use Rattle.item.specs.Table.{ruleOf, rowOf};
 
-pub fn frame_ok(positional: bool, frame: u8) -> bool
+fn frame_ok(positional: bool, frame: u8) -> bool
     ensures { λ r. ⌜ r ≡ frameOk positional frame ⌝ }
 {
     let at_degrees = (frame == 0)
@@ -33,7 +33,7 @@ pub fn frame_ok(positional: bool, frame: u8) -> bool
     at_degrees | (!positional & (frame == 2))
 }
 
-pub fn whole_within(low: i32, high: i32, x: f32) -> bool
+fn whole_within(low: i32, high: i32, x: f32) -> bool
     ensures { λ r. ⌜ r ≡ wholeFrom low high (wholeOf x) ⌝ }
 {
     match values::whole_of(x) {
@@ -42,7 +42,7 @@ pub fn whole_within(low: i32, high: i32, x: f32) -> bool
     }
 }
 
-pub fn is_target(count: u16, own: u16, x: f32) -> bool
+fn is_target(count: u16, own: u16, x: f32) -> bool
     ensures { λ r. ⌜ r ≡ targetIn count own (wholeOf x) ⌝ }
 {
     match values::whole_of(x) {
@@ -51,7 +51,7 @@ pub fn is_target(count: u16, own: u16, x: f32) -> bool
     }
 }
 
-pub fn param_ok(rule: ParamRule, count: u16, own: u16, x: f32) -> bool
+fn param_ok(rule: ParamRule, count: u16, own: u16, x: f32) -> bool
     ensures { λ r. ⌜ r ≡ paramOk (ruleOf rule) count own x ⌝ }
 {
     match rule {
@@ -66,7 +66,7 @@ pub fn param_ok(rule: ParamRule, count: u16, own: u16, x: f32) -> bool
 }
 
 // -2147483648 is compared, never negated.
-pub fn place_fault(positional: bool, item: Item, rest: u8) -> u8
+fn place_fault(positional: bool, item: Item, rest: u8) -> u8
     requires { ⌜ item ≡ itemFor (patterns item) ⌝ }
     ensures { λ r. ⌜ r ≡ placeFault positional (patterns item) rest ⌝ }
 {
@@ -85,7 +85,7 @@ pub fn place_fault(positional: bool, item: Item, rest: u8) -> u8
     rest
 }
 
-pub fn room_fault(jumps: u16, item: Item) -> u8
+fn room_fault(jumps: u16, item: Item) -> u8
     ensures { λ r. ⌜ r ≡ roomFault jumps (patterns item) ⌝ }
 {
     if (item.command == JUMP) & (MAX_JUMPS <= jumps) {

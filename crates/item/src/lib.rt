@@ -1,7 +1,7 @@
 // The mission item as a struct by value, and the verdict on an item by document 01's rules. The values of its fields are read by
 // the crate values, the command table is in table, and the rules' tests one by one are in checks.
-pub mod checks;
-pub mod table;
+mod checks;
+mod table;
 
 use limits::JUMP;
 use limits::UNSUPPORTED;

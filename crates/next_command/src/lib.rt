@@ -1,6 +1,6 @@
 // The next command: what a "command done" call answers, and the state after it. Looking at the items is in meet, following jumps in find.
-pub mod find;
-pub mod meet;
+mod find;
+mod meet;
 
 use find::Found;
 use plan::State;

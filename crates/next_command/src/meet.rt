@@ -29,7 +29,7 @@ pub enum Met {
 }
 
 // What one item is to a search.
-pub enum Look {
+enum Look {
     Meets(Met),
     PassedOver,
 }

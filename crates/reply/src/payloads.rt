@@ -17,9 +17,9 @@ use wire::RequestInt;
 use wire::Statustext;
 
 // A number's bytes, lowest first.
-pub struct Two(pub u8, pub u8);
+struct Two(u8, u8);
 
-pub struct Four(pub u8, pub u8, pub u8, pub u8);
+struct Four(u8, u8, u8, u8);
 
 fn bytes16(n: u16) -> Two
     ensures { λ r. ⌜ r .0 ∷ r .1 ∷ [] ≡ bytesOf 2 n ⌝ }
