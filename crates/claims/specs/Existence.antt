@@ -19,8 +19,8 @@ use Rattle.plan.specs.View.{view, freshState, fresh-view}
 use Rattle.refine.specs.Promise.{halfOf, spare}
 use Rattle.refine.specs.Serving.{Kept, result-exists}
 use Rattle.refine.specs.Front.{view-front}
-use Rattle.claims.specs.Demand3.{Got, stop, call, got, one}
-use Rattle.claims.specs.Service.{World, start, shows, Trace, faithful-shows}
+use Rattle.claims.specs.Demand3.{Got, stop, call, one}
+use Rattle.claims.specs.Service.{World, start, shows, Trace, gave, service-shows}
 
 -- each call is lent at most so much of the store
 abbrev pub AllLent : (size : ℕ) → List Call → Type 0
@@ -52,7 +52,7 @@ traced w (c ∷ cs) ready fit lent =
     λ ranged long. subst ModelFits (sym same ∙ view-front (w .state) front rest long ranged) (ready .fits) in
     let kept : Kept c (w .state) front buffer = result-exists c (w .state) front buffer (ready .three) size (fit .0) fits in
     let z : World = record { state = kept .result .state; store = kept .store ++ rest } in
-    let stepped = one State freshState view halfOf spare faithful-shows (shows w) c (w .state) front (kept .store) rest buffer (kept .buffer) (kept .result)
+    let stepped = one State freshState view halfOf spare service-shows (shows w) c (w .state) front (kept .store) rest buffer (kept .buffer) (kept .result)
     (ready .formed) same size (kept .serves) in
     let after : shows z ≡ step (shows w) c .model = stepped .after in
     let long : length (z .store) ≡ length (w .store) =
@@ -65,7 +65,7 @@ traced w (c ∷ cs) ready fit lent =
     })
     (fit .1) (subst (λ (n : ℕ). AllLent n cs) (sym long) (lent .1)) in
     record {
-      given = got State freshState view halfOf spare (kept .result) (kept .buffer) ∷ more .given;
+      given = gave (kept .result) (kept .buffer) ∷ more .given;
       ends = more .ends;
       trace =
           call w c front (kept .store) rest buffer (kept .buffer) (kept .result) cs (more .given) (more .ends) (sym split) size
