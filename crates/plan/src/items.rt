@@ -1,6 +1,6 @@
 // Items in the store: storing one, reading two of its fields, and counting jumps.
 ghost use mathlib.Core.Path.{_≡_};
-ghost use Prim.Native.Nat.{_+_, _≤_, _<_};
+ghost use Prim.Native.Nat.{_+_, _≤_};
 ghost use lib.ListN.{length};
 ghost use Rattle.rules.specs.Limits.{rally, sizeOf, itemBytes, storeBytes};
 ghost use Rattle.rules.specs.Messages.{itemIn};
