@@ -1,4 +1,5 @@
--- Demand 3 speaks of something: every list of calls that fit, each lent no more than there is, has a trace from a fresh start, over every store.
+-- Demand 3 speaks of something: every list of calls that fit, each lent no more than there is, has a trace from a fresh start, over every store; and what
+-- the service's calls promise is what traces are made of.
 use Prim.Native.Nat.{ℕ, _+_, _≤_}
 use mathlib.Core.Path.{_≡_, refl, sym, ap, subst, _∙_}
 use mathlib.Core.List.{List, [], _∷_, _++_}
@@ -16,9 +17,10 @@ use Rattle.call_lists.specs.Laws.Ranged.{Formed, fresh-formed}
 use Rattle.call_lists.specs.Laws.Kept.{step-kept}
 use Rattle.plan.specs.declared.State.{State}
 use Rattle.plan.specs.View.{view, freshState, fresh-view}
-use Rattle.refine.specs.Promise.{halfOf, spare}
+use Rattle.refine.specs.Promise.{Result, halfOf, spare}
 use Rattle.refine.specs.Serving.{Kept, result-exists}
 use Rattle.refine.specs.Front.{view-front}
+use Rattle.service.specs.Calls.{Serves}
 use Rattle.claims.specs.Demand3.{Got, stop, call, one}
 use Rattle.claims.specs.Service.{World, start, shows, Trace, gave, service-shows}
 
@@ -76,3 +78,10 @@ pub trace-exists : (s : Bytes) (cs : List Call) → CallsFit cs → AllLent (len
 trace-exists s cs fit lent =
     traced (start s) cs
     (record { three = refl; formed = subst Formed (sym (fresh-view s)) fresh-formed; fits = subst ModelFits (sym (fresh-view s)) fresh-fits }) fit lent
+
+-- The step of a trace is the contract of the service's calls.
+pub contract-steps :
+    (w : World) (c : Call) (lent lent′ rest b b′ : Bytes) (r : Result State) → w .store ≡ lent ++ rest → length lent ≡ storeLent c → length b ≡ bufferLent c
+    → Serves c (w .state) lent lent′ b b′ r → Trace w (c ∷ []) (gave r b′ ∷ []) (record { state = r .state; store = lent′ ++ rest })
+contract-steps w c lent lent′ rest b b′ r store size buffer serves =
+    call w c lent lent′ rest b b′ r [] [] (record { state = r .state; store = lent′ ++ rest }) store size buffer serves (stop (record { state = r .state; store = lent′ ++ rest }))

@@ -1,18 +1,16 @@
 -- Demand 3 of the service's own state, store and calls.
-use mathlib.Core.Path.{_≡_, sym, _∙_}
-use mathlib.Core.List.{List, [], _∷_, _++_}
-use lib.ListN.{length}
+use mathlib.Core.Path.{sym, _∙_}
+use mathlib.Core.List.{List}
 use Rattle.rules.specs.Payload.{Bytes}
 use Rattle.rules.specs.Model.{Model}
-use Rattle.rules.specs.Calls.{Call, storeLent, bufferLent}
+use Rattle.rules.specs.Calls.{Call}
 use Rattle.plan.specs.declared.State.{State}
 use Rattle.plan.specs.View.{view, freshState, fresh-view}
 use Rattle.plan.specs.Ranges.{ranged-view}
 use Rattle.refine.specs.Promise.{Result, halfOf, spare}
 use Rattle.refine.specs.Front.{view-front}
-use Rattle.service.specs.Calls.{Serves}
 use Rattle.claims.specs.Demand3 as demand
-use Rattle.claims.specs.Demand3.{Got, Demand, Shows, demand3, stop, call}
+use Rattle.claims.specs.Demand3.{Got, Demand, Shows, demand3}
 
 -- a state with its store
 abbrev pub World : Type 0
@@ -41,13 +39,6 @@ service-shows =
       ranges = λ st s s′. ranged-view st s ∙ sym (ranged-view st s′);
       front = view-front;
     }
-
--- The step of a trace is the contract of the service's calls.
-pub contract-steps :
-    (w : World) (c : Call) (lent lent′ rest b b′ : Bytes) (r : Result State) → w .store ≡ lent ++ rest → length lent ≡ storeLent c → length b ≡ bufferLent c
-    → Serves c (w .state) lent lent′ b b′ r → Trace w (c ∷ []) (gave r b′ ∷ []) (record { state = r .state; store = lent′ ++ rest })
-contract-steps w c lent lent′ rest b b′ r store size buffer serves =
-    call w c lent lent′ rest b b′ r [] [] (record { state = r .state; store = lent′ ++ rest }) store size buffer serves (stop (record { state = r .state; store = lent′ ++ rest }))
 
 -- Demand 3: over every list of calls from a fresh start, with a store of any length.
 pub demand-3 : Demand State freshState view halfOf spare
