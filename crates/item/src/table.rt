@@ -2,10 +2,15 @@
 ghost use mathlib.Core.Path.{_≡_};
 ghost use Rattle.rules.specs.Items.{commands};
 ghost use Rattle.item.specs.Table.{lookedUp, lookup};
+use limits::CHANGE_SPEED;
+use limits::DELAY;
+use limits::DISTANCE;
 use limits::FENCE;
 use limits::FLIGHT;
 use limits::JUMP;
 use limits::RALLY;
+use limits::SET_SERVO;
+use limits::YAW;
 
 // What is asked of a param.
 pub enum ParamRule {
@@ -52,16 +57,16 @@ pub fn row_of(command: u16) -> Listing
     match command {
         16 | 18..=19 => listed_as(FLIGHT, true, ParamRule::AtLeastZero, ParamRule::Anything),
         17 | 20..=22 | 31 => listed_as(FLIGHT, true, ParamRule::Anything, ParamRule::Anything),
-        112 | 114 => listed_as(FLIGHT, false, ParamRule::AtLeastZero, ParamRule::Anything),
-        115 => listed_as(FLIGHT, false, ParamRule::UpTo(360), ParamRule::Anything),
+        DELAY | DISTANCE => listed_as(FLIGHT, false, ParamRule::AtLeastZero, ParamRule::Anything),
+        YAW => listed_as(FLIGHT, false, ParamRule::UpTo(360), ParamRule::Anything),
         JUMP => listed_as(
             FLIGHT,
             false,
             ParamRule::Target,
             ParamRule::Whole(-1, 32767),
         ),
-        178 => listed_as(FLIGHT, false, ParamRule::Anything, ParamRule::Finite),
-        183 => listed_as(
+        CHANGE_SPEED => listed_as(FLIGHT, false, ParamRule::Anything, ParamRule::Finite),
+        SET_SERVO => listed_as(
             FLIGHT,
             false,
             ParamRule::Whole(1, 16),

@@ -37,9 +37,20 @@ pub const DENIED: u8 = 14;
 
 pub const CANCELLED: u8 = 15;
 
-// The command of a jump, how many of them a flight plan has at most, how often one runs, and how many one search follows.
+// The flight commands that other rules name.
+pub const DELAY: u16 = 112;
+
+pub const DISTANCE: u16 = 114;
+
+pub const YAW: u16 = 115;
+
 pub const JUMP: u16 = 177;
 
+pub const CHANGE_SPEED: u16 = 178;
+
+pub const SET_SERVO: u16 = 183;
+
+// How many jumps a flight plan has at most, how often one runs, and how many one search follows.
 pub const MAX_JUMPS: u16 = 15;
 
 // A count for each of them.

@@ -3,8 +3,13 @@
 use crate::Command;
 use item::Item;
 use limits::ACCEPTED;
+use limits::CHANGE_SPEED;
+use limits::DELAY;
+use limits::DISTANCE;
 use limits::FLIGHT;
 use limits::JUMP_COUNTS;
+use limits::SET_SERVO;
+use limits::YAW;
 use values::Whole;
 ghost use mathlib.Core.Path.{_≡_};
 ghost use Prim.Native.Nat.{_≤_, _<_};
@@ -42,11 +47,11 @@ fn command_of(n: u16, item: Item) -> Command
 {
     let command = item.command;
     match command {
-        112 => Command::Wait(n, item.param1),
-        114 => Command::Near(n, item.param1),
-        115 => Command::Turn(n, item.param1),
-        178 => Command::Speed(n, item.param2),
-        183 => Command::Servo(n, item::number1(item) as u16, item::number2(item) as u16),
+        DELAY => Command::Wait(n, item.param1),
+        DISTANCE => Command::Near(n, item.param1),
+        YAW => Command::Turn(n, item.param1),
+        CHANGE_SPEED => Command::Speed(n, item.param2),
+        SET_SERVO => Command::Servo(n, item::number1(item) as u16, item::number2(item) as u16),
         _ => Command::Fly(n),
     }
 }
