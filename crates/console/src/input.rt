@@ -17,7 +17,7 @@ pub const CMP: u8 = 7;
 
 pub const POKE: u8 = 8;
 
-pub const WRITE: u8 = 9;
+const WRITE: u8 = 9;
 
 const END: u8 = 0;
 

@@ -20,7 +20,7 @@ use Rattle.plan.specs.View.{stationIn}
 use Rattle.upload.specs.declared.Say.the-variants.{Ack, Ask}
 use Rattle.engine.specs.declared.Judged.{Judged}
 use Rattle.engine.specs.declared.Judged.the-variants.{Refused, OutOfTurn, Invalid, Valid}
-use Rattle.upload.specs.Turns.{withUpload, ended, replaced, oneMore, keeps, renews, ItemTurn, itemTurn, stored, validTurn, itemVerdict, itemTurned}
+use Rattle.upload.specs.Turns.{withUpload, ended, replaced, oneMore, keeps, renews, TurnAndStore, turnWith, stored, validItemTurned, itemVerdict, itemTurned}
 
 unfoldable pub judgedAs : Bytes → (kind : ℕ) → Upload → Plan → Station → Item → Judged
 judgedAs s kind Idle p from item = Refused invalidSequence
@@ -30,11 +30,11 @@ judgedAs s kind (Running r) p from item =
     (cond (not (eqb (itemVerdict s kind p r item) accepted)) (Invalid (itemVerdict s kind p r item))
     (Valid r)))
 
-unfoldable pub turnedAs : Judged → Bytes → (kind : ℕ) → Plan → (now : ℕ) → Item → ItemTurn
-turnedAs (Refused result) s kind p now item = itemTurn (keeps p (Ack result 0)) s
-turnedAs (OutOfTurn next) s kind p now item = itemTurn (keeps p (Ask next)) s
-turnedAs (Invalid result) s kind p now item = itemTurn (keeps (ended p) (Ack result 0)) s
-turnedAs (Valid r) s kind p now item = validTurn (stored s kind p r item) kind p r now
+unfoldable pub turnedAs : Judged → Bytes → (kind : ℕ) → Plan → (now : ℕ) → Item → TurnAndStore
+turnedAs (Refused result) s kind p now item = turnWith (keeps p (Ack result 0)) s
+turnedAs (OutOfTurn next) s kind p now item = turnWith (keeps p (Ask next)) s
+turnedAs (Invalid result) s kind p now item = turnWith (keeps (ended p) (Ack result 0)) s
+turnedAs (Valid r) s kind p now item = validItemTurned (stored s kind p r item) kind p r now
 
 pub turned-judged : (s : Bytes) (kind : ℕ) (u : Upload) (p : Plan) (from : Station) (now : ℕ) (item : Item)
     → itemTurned s kind u p from now item ≡ turnedAs (judgedAs s kind u p from item) s kind p now item
@@ -44,9 +44,9 @@ turned-judged s kind (Running r) p from now item =
     go (not (sameStation from (stationIn r))) (not (eqb (item .seq) (r .next))) (not (eqb (itemVerdict s kind p r item) accepted))
   where
     go : (a b c : Bool)
-        → cond a (itemTurn (keeps p (Ack denied 0)) s)
-        (cond b (itemTurn (keeps p (Ask (r .next))) s)
-        (cond c (itemTurn (keeps (ended p) (Ack (itemVerdict s kind p r item) 0)) s) (validTurn (stored s kind p r item) kind p r now)))
+        → cond a (turnWith (keeps p (Ack denied 0)) s)
+        (cond b (turnWith (keeps p (Ask (r .next))) s)
+        (cond c (turnWith (keeps (ended p) (Ack (itemVerdict s kind p r item) 0)) s) (validItemTurned (stored s kind p r item) kind p r now)))
         ≡ turnedAs (cond a (Refused denied) (cond b (OutOfTurn (r .next)) (cond c (Invalid (itemVerdict s kind p r item)) (Valid r)))) s kind p now item
     go true b c = refl
     go false true c = refl
@@ -68,13 +68,13 @@ valid-running s kind (Running q) p from item r e = go (not (sameStation from (st
     go false false false e = cc
 
 -- taking an item leaves the store as the item was put there
-pub valid-store : (s : Bytes) (kind : ℕ) (p : Plan) (r : Run) (now : ℕ) → validTurn s kind p r now .store ≡ s
-unfolding validTurn
+pub valid-store : (s : Bytes) (kind : ℕ) (p : Plan) (r : Run) (now : ℕ) → validItemTurned s kind p r now .store ≡ s
+unfolding validItemTurned
 valid-store s kind p r now = go (not (eqb (r .next + 1) (r .count))) (wholeOk kind (itemsIn s (not (p .half)) kind (r .count)))
   where
     go : (a b : Bool)
-        → cond a (itemTurn (keeps (withUpload p (Running (oneMore r now))) (Ask (r .next + 1))) s)
-        (cond b (itemTurn (renews (replaced p (r .count)) (Ack accepted (nextNumber (p .number)))) s) (itemTurn (keeps (ended p) (Ack invalid 0)) s))
+        → cond a (turnWith (keeps (withUpload p (Running (oneMore r now))) (Ask (r .next + 1))) s)
+        (cond b (turnWith (renews (replaced p (r .count)) (Ack accepted (nextNumber (p .number)))) s) (turnWith (keeps (ended p) (Ack invalid 0)) s))
         .store
         ≡ s
     go true b = refl

@@ -10,7 +10,7 @@ ghost use Rattle.rules.specs.Model.{wholeOk};
 ghost use Rattle.item.specs.Patterns.{itemFor, patterns};
 ghost use Rattle.plan.specs.Places.{itemsIn};
 ghost use Rattle.plan.specs.Ranges.{uploadRanged};
-ghost use Rattle.upload.specs.Turns.{itemTurn, validTurn, itemTurned};
+ghost use Rattle.upload.specs.Turns.{turnWith, validItemTurned, itemTurned};
 ghost use Rattle.engine.specs.Judging.{InRange, judgedAs};
 use fence::fence_ok;
 use item::Item;
@@ -101,7 +101,7 @@ fn whole_ok(store: &[u8], kind: u8, half: bool, n: u16) -> bool
 // A valid item is in the store: the next is asked for, or after the last the plan is replaced.
 fn valid_turn(store: &[u8], kind: u8, plan: Plan, run: Run, clock: u32) -> Turned
     requires { ⌜ (storeBytes ≤ length (now store)) × InRange (sizeOf kind) run ⌝ }
-    ensures { λ r. ⌜ r ≡ validTurn (now (store .entry)) kind plan run clock .turned ⌝ }
+    ensures { λ r. ⌜ r ≡ validItemTurned (now (store .entry)) kind plan run clock .turned ⌝ }
 {
     let next = run.next + 1;
     if next != run.count {
@@ -133,7 +133,7 @@ pub fn on_item(
     item: Item,
 ) -> Turned
     requires { ⌜ (storeBytes ≤ length (now store)) × (kind ≤ rally) × (uploadRanged (sizeOf kind) (plan .upload) ≡ true) × (item ≡ itemFor (patterns item)) ⌝ }
-    ensures { λ r. ⌜ itemTurn r (now (store .exit)) ≡ itemTurned (now (store .entry)) kind (plan .upload) plan (station system component) clock (patterns item) ⌝ }
+    ensures { λ r. ⌜ turnWith r (now (store .exit)) ≡ itemTurned (now (store .entry)) kind (plan .upload) plan (station system component) clock (patterns item) ⌝ }
 {
     let judged = judge(store, kind, plan, system, component, item);
     match judged {

@@ -31,7 +31,7 @@ use Rattle.plan.specs.Writes.{putAt, Apart, otherHalf, otherKind, beyond, items
 use Rattle.plan.specs.View.{planOf, planIn, runIn, uploadIn, view, stationIn}
 use Rattle.upload.specs.declared.Say.{Say}
 use Rattle.upload.specs.declared.Say.the-variants.{Ack, Ask}
-use Rattle.upload.specs.Turns.{withUpload, ended, replaced, oneMore, keeps, renews, ItemTurn, itemTurn, validTurn, itemVerdict, itemTurned}
+use Rattle.upload.specs.Turns.{withUpload, ended, replaced, oneMore, keeps, renews, TurnAndStore, turnWith, validItemTurned, itemVerdict, itemTurned}
 use Rattle.states.specs.Whole.{answerOf, turns, itemDone}
 use Rattle.refine.specs.Views.{plan-shown, upload-shown, length-shown, view-upload, view-renewed}
 use Rattle.refine.specs.Turned.{Agree, kept, ends, runs}
@@ -207,11 +207,11 @@ module _ (st : State) (s : Bytes) (long : storeBytes ≤ length s) (ranged : inR
         let after = ends st s′ three k known from say a e in
         record { model = after .model ∙ ap (λ (m : Model). record { shown = m .shown; uploads = set (m .uploads) k idle }) view-stays; answer = after .answer }
 
-    valid-agrees : Agree (itemDone st k from (validTurn s′ k (planOf st k) r now)) (onValidItem (view st s) from now k run (itemOf item))
-    unfolding validTurn onValidItem
+    valid-agrees : Agree (itemDone st k from (validItemTurned s′ k (planOf st k) r now)) (onValidItem (view st s) from now k run (itemOf item))
+    unfolding validItemTurned onValidItem
     valid-agrees =
         rw next-is
-        (either₂ (λ (t : ItemTurn) (m : Stepped). Agree (itemDone st k from t) m) (not (eqb (r .next + 1) (r .count))) (λ t. valid-more)
+        (either₂ (λ (t : TurnAndStore) (m : Stepped). Agree (itemDone st k from t) m) (not (eqb (r .next + 1) (r .count))) (λ t. valid-more)
         (λ last. at-last (eqb-true (r .next + 1) (r .count) (not-false (eqb (r .next + 1) (r .count)) last))))
       where
         at-last :
@@ -219,13 +219,13 @@ module _ (st : State) (s : Bytes) (long : storeBytes ≤ length s) (ranged : inR
             → Agree
             (itemDone st k from
             (cond (wholeOk k (itemsIn s′ (not (planOf st k .half)) k (r .count)))
-            (itemTurn (renews (replaced (planOf st k) (r .count)) (Ack accepted (nextNumber (planOf st k .number)))) s′)
-            (itemTurn (keeps (ended (planOf st k)) (Ack invalid 0)) s′)))
+            (turnWith (renews (replaced (planOf st k) (r .count)) (Ack accepted (nextNumber (planOf st k .number)))) s′)
+            (turnWith (keeps (ended (planOf st k)) (Ack invalid 0)) s′)))
             (cond (wholeOk k (whole run (itemOf item))) (rule.replaced (view st s) from k (whole run (itemOf item)))
             (record { model = record { shown = view st s .shown; uploads = set (view st s .uploads) k idle }; answer = acks from invalid k }))
         at-last last =
             rw (all-taken last)
-            (either₂ (λ (t : ItemTurn) (m : Stepped). Agree (itemDone st k from t) m) (wholeOk k (whole run (itemOf item))) (λ t. valid-last last)
+            (either₂ (λ (t : TurnAndStore) (m : Stepped). Agree (itemDone st k from t) m) (wholeOk k (whole run (itemOf item))) (λ t. valid-last last)
             (λ t. ends-after (Ack invalid 0) (acks from invalid k) refl))
 
     item-runs : Agree (itemDone st k from (itemTurned s k (Running r) (planOf st k) from now item)) (onItem (running run) (view st s) from now k item)
@@ -238,7 +238,7 @@ module _ (st : State) (s : Bytes) (long : storeBytes ≤ length s) (ranged : inR
         (λ t. ends st s three k known from (Ack (itemVerdict s k (planOf st k) r item) 0) (acks from (itemVerdict s k (planOf st k) r item) k) refl)
         (λ t. valid-agrees))))
       where
-        Both : ItemTurn → Stepped → Type 0
+        Both : TurnAndStore → Stepped → Type 0
         Both t m = Agree (itemDone st k from t) m
 
 -- an item of a known kind

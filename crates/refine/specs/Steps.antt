@@ -32,7 +32,7 @@ use Rattle.plan.specs.Writes.{length-stays}
 use Rattle.plan.specs.View.{emptyPlan, planOf, view, stationIn}
 use Rattle.upload.specs.declared.Say.the-variants.{Silent}
 use Rattle.upload.specs.declared.Turned.{Turned}
-use Rattle.upload.specs.Turns.{ended, emptied, renews, othersUpload, ownUpload, countTurned, ackTurned, timerTurned, ItemTurn, validTurn, itemVerdict, itemTurned, stored}
+use Rattle.upload.specs.Turns.{ended, emptied, renews, othersUpload, ownUpload, countTurned, ackTurned, timerTurned, TurnAndStore, validItemTurned, itemVerdict, itemTurned, stored}
 use Rattle.states.specs.Whole.{Done, gives, turnedState, clearedState, othersAmong, clearDone, listDone, requestDone, chooseDone, knownDone, messageDone, timerDone}
 use Rattle.refine.specs.Views.{plan-shown}
 use Rattle.refine.specs.Turned.{Agree, timer-agrees}
@@ -88,21 +88,21 @@ module _ (p : Plan) where
   replaced-ok : (n : ℕ) → HalfOk p (record { len = n; half = not (p .half); number = nextNumber (p .number); upload = Idle })
   replaced-ok n = ap (λ (t : Bool). cond t (p .half) (not (p .half))) (sym (next-moves (p .number)))
 
-  abbrev ItemTurnOk : ItemTurn → Type 0
-  ItemTurnOk t = TurnOk p (t .turned)
+  abbrev StoredTurnOk : TurnAndStore → Type 0
+  StoredTurnOk t = TurnOk p (t .turned)
 
-  valid-ok : (s : Bytes) (kind : ℕ) (r : Run) (now : ℕ) → ItemTurnOk (validTurn s kind p r now)
-  unfolding validTurn
+  valid-ok : (s : Bytes) (kind : ℕ) (r : Run) (now : ℕ) → StoredTurnOk (validItemTurned s kind p r now)
+  unfolding validItemTurned
   valid-ok s kind r now =
-      either ItemTurnOk (not (eqb (r .next + 1) (r .count))) (λ t. same-ok) (λ t. either ItemTurnOk (wholeOk kind _) (λ t. replaced-ok (r .count)) (λ t. ended-ok))
+      either StoredTurnOk (not (eqb (r .next + 1) (r .count))) (λ t. same-ok) (λ t. either StoredTurnOk (wholeOk kind _) (λ t. replaced-ok (r .count)) (λ t. ended-ok))
 
-  item-ok : (s : Bytes) (kind : ℕ) (u : Upload) (from : Station) (now : ℕ) (item : Item) → ItemTurnOk (itemTurned s kind u p from now item)
+  item-ok : (s : Bytes) (kind : ℕ) (u : Upload) (from : Station) (now : ℕ) (item : Item) → StoredTurnOk (itemTurned s kind u p from now item)
   unfolding itemTurned
   item-ok s kind Idle from now item = same-ok
   item-ok s kind (Running r) from now item =
-      either ItemTurnOk (not (sameStation from (stationIn r))) (λ t. same-ok)
-      (λ t. either ItemTurnOk (not (eqb (item .seq) (r .next))) (λ t. same-ok)
-      (λ t. either ItemTurnOk (not (eqb (itemVerdict s kind p r item) accepted)) (λ t. ended-ok) (λ t. valid-ok (stored s kind p r item) kind r now)))
+      either StoredTurnOk (not (sameStation from (stationIn r))) (λ t. same-ok)
+      (λ t. either StoredTurnOk (not (eqb (item .seq) (r .next))) (λ t. same-ok)
+      (λ t. either StoredTurnOk (not (eqb (itemVerdict s kind p r item) accepted)) (λ t. ended-ok) (λ t. valid-ok (stored s kind p r item) kind r now)))
 
 -- ---- halves of the whole state
 
@@ -189,7 +189,7 @@ module _ (st : State) (s : Bytes) (long : storeBytes ≤ length s) (ranged : inR
   item-beside :
       (u : Upload) → planOf st k .upload ≡ u → (from : Station) (now : ℕ) (item : Item)
       → Beside s (spareIn (planOf st k) k u from (item .seq)) (itemTurned s k u (planOf st k) from now item .store)
-  unfolding itemTurned validTurn
+  unfolding itemTurned validItemTurned
   item-beside Idle e from now item = beside-same s (spareIn (planOf st k) k Idle from (item .seq))
   item-beside (Running r) e from now item =
       let free = spareIn (planOf st k) k (Running r) from (item .seq) in
@@ -202,7 +202,7 @@ module _ (st : State) (s : Bytes) (long : storeBytes ≤ length s) (ranged : inR
       (λ t. either Left (not (eqb (r .next + 1) (r .count))) (λ t. after)
       (λ t. either Left (wholeOk k (itemsIn s′ (not (p .half)) k (r .count))) (λ t. after) (λ t. after)))))
     where
-      Left : ItemTurn → Type 0
+      Left : TurnAndStore → Type 0
       Left t = Beside s (spareIn (planOf st k) k (Running r) from (item .seq)) (t .store)
 
 -- ---- every message

@@ -16,7 +16,7 @@ use Rattle.plan.specs.View.{planOf}
 use Rattle.upload.specs.declared.Say.{Say}
 use Rattle.upload.specs.declared.Say.the-variants.{Silent, Ack, Ask}
 use Rattle.upload.specs.declared.Turned.{Turned}
-use Rattle.upload.specs.Turns.{ItemTurn, emptied, renews, countTurned, ackTurned, timerTurned, itemTurned, othersUpload, stationOf}
+use Rattle.upload.specs.Turns.{TurnAndStore, emptied, renews, countTurned, ackTurned, timerTurned, itemTurned, othersUpload, stationOf}
 
 -- the state, the store and the answer after a call
 pub record Done : Type 0 where
@@ -82,7 +82,7 @@ chooseDone st s seq =
 
 -- ---- every message of a kind that it may have
 
-abbrev pub itemDone : State → (kind : ℕ) → Station → ItemTurn → Done
+abbrev pub itemDone : State → (kind : ℕ) → Station → TurnAndStore → Done
 itemDone st kind from t = turns st (t .store) kind from (t .turned)
 
 unfoldable pub knownDone : State → Bytes → Station → (now kind : ℕ) → Request → Done

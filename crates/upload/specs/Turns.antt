@@ -84,30 +84,30 @@ timerTurned (Running r) p now =
 
 -- ---- an item: the plan and the store after it
 
-pub record ItemTurn : Type 0 where
+pub record TurnAndStore : Type 0 where
   pub turned : Turned
   pub store : Bytes
 
-abbrev pub itemTurn : Turned → Bytes → ItemTurn
-itemTurn t s = record { turned = t; store = s }
+abbrev pub turnWith : Turned → Bytes → TurnAndStore
+turnWith t s = record { turned = t; store = s }
 
 -- the store with the item at the upload's next place
 abbrev pub stored : Bytes → (kind : ℕ) → Plan → Run → Item → Bytes
 stored s kind p r item = putAt s (not (p .half)) kind (r .next) (itemOf item)
 
-unfoldable pub validTurn : Bytes → (kind : ℕ) → Plan → Run → (now : ℕ) → ItemTurn
-validTurn s kind p r now =
-    cond (not (eqb (r .next + 1) (r .count))) (itemTurn (keeps (withUpload p (Running (oneMore r now))) (Ask (r .next + 1))) s)
-    (cond (wholeOk kind (itemsIn s (not (p .half)) kind (r .count))) (itemTurn (renews (replaced p (r .count)) (Ack accepted (nextNumber (p .number)))) s)
-    (itemTurn (keeps (ended p) (Ack invalid 0)) s))
+unfoldable pub validItemTurned : Bytes → (kind : ℕ) → Plan → Run → (now : ℕ) → TurnAndStore
+validItemTurned s kind p r now =
+    cond (not (eqb (r .next + 1) (r .count))) (turnWith (keeps (withUpload p (Running (oneMore r now))) (Ask (r .next + 1))) s)
+    (cond (wholeOk kind (itemsIn s (not (p .half)) kind (r .count))) (turnWith (renews (replaced p (r .count)) (Ack accepted (nextNumber (p .number)))) s)
+    (turnWith (keeps (ended p) (Ack invalid 0)) s))
 
 abbrev pub itemVerdict : Bytes → (kind : ℕ) → Plan → Run → Item → ℕ
 itemVerdict s kind p r item = fault kind (r .count) (r .next) (jumpsAmong (itemsIn s (not (p .half)) kind (r .next))) item
 
-unfoldable pub itemTurned : Bytes → (kind : ℕ) → Upload → Plan → Station → (now : ℕ) → Item → ItemTurn
-itemTurned s kind Idle p from now item = itemTurn (keeps p (Ack invalidSequence 0)) s
+unfoldable pub itemTurned : Bytes → (kind : ℕ) → Upload → Plan → Station → (now : ℕ) → Item → TurnAndStore
+itemTurned s kind Idle p from now item = turnWith (keeps p (Ack invalidSequence 0)) s
 itemTurned s kind (Running r) p from now item =
-    cond (not (sameStation from (stationIn r))) (itemTurn (keeps p (Ack denied 0)) s)
-    (cond (not (eqb (item .seq) (r .next))) (itemTurn (keeps p (Ask (r .next))) s)
-    (cond (not (eqb (itemVerdict s kind p r item) accepted)) (itemTurn (keeps (ended p) (Ack (itemVerdict s kind p r item) 0)) s)
-    (validTurn (stored s kind p r item) kind p r now)))
+    cond (not (sameStation from (stationIn r))) (turnWith (keeps p (Ack denied 0)) s)
+    (cond (not (eqb (item .seq) (r .next))) (turnWith (keeps p (Ask (r .next))) s)
+    (cond (not (eqb (itemVerdict s kind p r item) accepted)) (turnWith (keeps (ended p) (Ack (itemVerdict s kind p r item) 0)) s)
+    (validItemTurned (stored s kind p r item) kind p r now)))

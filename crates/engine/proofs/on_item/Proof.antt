@@ -14,7 +14,7 @@ use Rattle.plan.specs.Writes.{putAt, length-stays}
 use Rattle.rules.specs.Laws.Layout.{length-itemOf}
 use Rattle.upload.specs.declared.Say.the-variants.{Ack, Ask}
 use Rattle.upload.specs.declared.Turned.{Turned}
-use Rattle.upload.specs.Turns.{ended, keeps, ItemTurn, itemTurn, stored, validTurn, itemTurned}
+use Rattle.upload.specs.Turns.{ended, keeps, TurnAndStore, turnWith, stored, validItemTurned, itemTurned}
 use Rattle.engine.specs.declared.Judged.{Judged}
 use Rattle.engine.specs.declared.Judged.the-variants.{Refused, OutOfTurn, Invalid, Valid}
 use Rattle.engine.specs.Judging.{InRange, judgedAs, turnedAs, turned-judged, valid-running, valid-store, running-in-range}
@@ -23,30 +23,30 @@ use Rattle.engine.proofs.on_item.Statement.{statement}
 use Rattle.engine.proofs.on_item.Tie as tie
 
 module _ (s : Bytes) (kind : ℕ) (p : Plan) (from : Station) (now : ℕ) (item : Item) (j : Judged) (is : j ≡ judgedAs s kind (p .upload) p from item) where
-  abbrev step : ItemTurn
+  abbrev step : TurnAndStore
   step = itemTurned s kind (p .upload) p from now item
 
   as-judged : (k : Judged) → j ≡ k → turnedAs k s kind p now item ≡ step
   as-judged k e = sym (turned-judged s kind (p .upload) p from now item ∙ ap (λ (x : Judged). turnedAs x s kind p now item) (sym is ∙ e))
 
-  refused : (result : ℕ) (t : Turned) → j ≡ Refused result → t ≡ keeps p (Ack result 0) → itemTurn t s ≡ step
+  refused : (result : ℕ) (t : Turned) → j ≡ Refused result → t ≡ keeps p (Ack result 0) → turnWith t s ≡ step
   unfolding turnedAs
   refused result t e et = rw et (as-judged (Refused result) e)
 
-  out-of-turn : (next : ℕ) (t : Turned) → j ≡ OutOfTurn next → t ≡ keeps p (Ask next) → itemTurn t s ≡ step
+  out-of-turn : (next : ℕ) (t : Turned) → j ≡ OutOfTurn next → t ≡ keeps p (Ask next) → turnWith t s ≡ step
   unfolding turnedAs
   out-of-turn next t e et = rw et (as-judged (OutOfTurn next) e)
 
-  fails : (result : ℕ) (q : Plan) (t : Turned) → j ≡ Invalid result → q ≡ ended p → t ≡ keeps q (Ack result 0) → itemTurn t s ≡ step
+  fails : (result : ℕ) (q : Plan) (t : Turned) → j ≡ Invalid result → q ≡ ended p → t ≡ keeps q (Ack result 0) → turnWith t s ≡ step
   unfolding turnedAs
   fails result q t e eq et = rw (et, eq) (as-judged (Invalid result) e)
 
   passes : (r : Run) (t : Turned) (s′ : Bytes) → j ≡ Valid r → s′ ≡ putAt s (not (p .half)) kind (r .next) (itemOf item)
-      → t ≡ validTurn s′ kind p r now .turned → itemTurn t s′ ≡ step
+      → t ≡ validItemTurned s′ kind p r now .turned → turnWith t s′ ≡ step
   unfolding turnedAs
   passes r t s′ e es et =
       rw (et, es)
-      (ap (itemTurn (validTurn (stored s kind p r item) kind p r now .turned)) (sym (valid-store (stored s kind p r item) kind p r now))
+      (ap (turnWith (validItemTurned (stored s kind p r item) kind p r now .turned)) (sym (valid-store (stored s kind p r item) kind p r now))
       ∙ as-judged (Valid r) e)
 
   -- the upload's place is in the store, and the store keeps its length

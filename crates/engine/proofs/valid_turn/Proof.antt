@@ -1,4 +1,4 @@
--- By the tests on the way to each return. Every test decides one `cond` of `validTurn`.
+-- By the tests on the way to each return. Every test decides one `cond` of `validItemTurned`.
 use mathlib.Core.Path.{_≡_, _∙_, sym, ap}
 use mathlib.Core.Bool.{Bool, true, false, not}
 use Prim.Native.Nat.{ℕ, _+_}
@@ -12,29 +12,29 @@ use Rattle.plan.specs.declared.Upload.the-variants.{Running}
 use Rattle.plan.specs.Places.{itemsIn}
 use Rattle.upload.specs.declared.Say.the-variants.{Ack, Ask}
 use Rattle.upload.specs.declared.Turned.{Turned}
-use Rattle.upload.specs.Turns.{withUpload, ended, replaced, oneMore, keeps, renews, ItemTurn, itemTurn, validTurn}
+use Rattle.upload.specs.Turns.{withUpload, ended, replaced, oneMore, keeps, renews, TurnAndStore, turnWith, validItemTurned}
 use borrow.Author.Needs.{needs}
 use Rattle.engine.proofs.valid_turn.Statement.{statement}
 use Rattle.engine.proofs.valid_turn.Tie as tie
 
 module _ (s : Bytes) (kind : ℕ) (p : Plan) (r : Run) (now : ℕ) where
-  turns : (t u : Turned) → t ≡ u → validTurn s kind p r now ≡ itemTurn u s → t ≡ validTurn s kind p r now .turned
-  turns t u e is = e ∙ ap (λ (k : ItemTurn). k .turned) (sym is)
+  turns : (t u : Turned) → t ≡ u → validItemTurned s kind p r now ≡ turnWith u s → t ≡ validItemTurned s kind p r now .turned
+  turns t u e is = e ∙ ap (λ (k : TurnAndStore). k .turned) (sym is)
 
   asks : (q : Plan) (t : Turned) → (r .next + 1 ≡ r .count → ⊥) → q ≡ withUpload p (Running (oneMore r now)) → t ≡ keeps q (Ask (r .next + 1))
-      → t ≡ validTurn s kind p r now .turned
-  unfolding validTurn
+      → t ≡ validItemTurned s kind p r now .turned
+  unfolding validItemTurned
   asks q t more eq et = turns t _ (rw eq at et) (simp (ne-eqb (r .next + 1) (r .count) more))
 
   module _ (b : Bool) (is : b ≡ wholeOk kind (itemsIn s (not (p .half)) kind (r .count))) where
     replaces : (q : Plan) (t : Turned) → r .next + 1 ≡ r .count → b ≡ true → q ≡ replaced p (r .count) → t ≡ renews q (Ack accepted (q .number))
-        → t ≡ validTurn s kind p r now .turned
-    unfolding validTurn
+        → t ≡ validItemTurned s kind p r now .turned
+    unfolding validItemTurned
     replaces q t last e eq et = turns t _ (rw eq at et) (simp (eq-eqb (r .next + 1) (r .count) last, ← is, e))
 
     fails : (q : Plan) (t : Turned) → r .next + 1 ≡ r .count → b ≡ false → q ≡ ended p → t ≡ keeps q (Ack invalid 0)
-        → t ≡ validTurn s kind p r now .turned
-    unfolding validTurn
+        → t ≡ validItemTurned s kind p r now .turned
+    unfolding validItemTurned
     fails q t last e eq et = turns t _ (rw eq at et) (simp (eq-eqb (r .next + 1) (r .count) last, ← is, e))
 
 add-next : tie.Need-add-next

@@ -11,7 +11,7 @@ use Rattle.plan.specs.declared.State.{State}
 use Rattle.plan.specs.View.{planOf}
 use Rattle.plan.specs.Ranges.{uploadRanged, stateRanged}
 use Rattle.upload.specs.declared.Turned.{Turned}
-use Rattle.upload.specs.Turns.{ItemTurn, itemTurn, itemTurned}
+use Rattle.upload.specs.Turns.{TurnAndStore, turnWith, itemTurned}
 use Rattle.states.specs.Whole.{turns, knownDone}
 use Rattle.answers.specs.declared.Served.{Served}
 use Rattle.answers.specs.Answered.{AnsweredBy, Handled}
@@ -23,12 +23,12 @@ in-range : (st : State) (kind : ℕ) → stateRanged st ≡ true → kind ≤ ra
 in-range st kind ranged known = plan-ranges st kind ranged known .upload
 
 brought : (st : State) (s s′ : Bytes) (kind system component clock : ℕ) (item : Item) (turned : Turned) (b b′ : Bytes) (r : Served)
-    → itemTurn turned s′ ≡ itemTurned s kind (planOf st kind .upload) (planOf st kind) (station system component) clock item
+    → turnWith turned s′ ≡ itemTurned s kind (planOf st kind .upload) (planOf st kind) (station system component) clock item
     → ((store : Bytes) → AnsweredBy (turns st store kind (station system component) turned) b b′ r)
     → Handled (knownDone st s (station system component) clock kind (brings item)) s′ b b′ r
 unfolding knownDone
 brought st s s′ kind system component clock item turned b b′ r turn answered =
-    record { answered = rw (sym (ap (λ (t : ItemTurn). t .turned) turn)) (answered s); store = ap (λ (t : ItemTurn). t .store) turn }
+    record { answered = rw (sym (ap (λ (t : TurnAndStore). t .turned) turn)) (answered s); store = ap (λ (t : TurnAndStore). t .store) turn }
 
 mul-plan : tie.Need-mul-plan
 mul-plan c = search needs
