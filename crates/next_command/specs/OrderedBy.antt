@@ -15,7 +15,7 @@ use Rattle.next_command.specs.Orders.{orderOf}
 use Rattle.next_command.specs.Finding.{foundOf}
 
 -- the model after a "command done" call
-abbrev pub afterDone : Model → Model
+abbrev afterDone : Model → Model
 afterDone m = record { shown = rules.advance (m .shown); uploads = m .uploads }
 
 pub record OrderedBy (st : State) (store : Bytes) (r : Ordered) : Type 0 where

@@ -17,7 +17,7 @@ use Rattle.rules.specs.Laws.Written.{item-fits}
 use Rattle.rules.specs.Fitting.{Fits, AllBytes, StationFits, CallFits}
 
 -- the item that a request brings, where it brings one
-abbrev pub RequestFits : Request → Type 0
+abbrev RequestFits : Request → Type 0
 RequestFits (brings item) = Fits (itemInt (station 0 0) 0 item)
 RequestFits (chooses seq) = Unit {0}
 RequestFits asksList = Unit {0}
