@@ -1,0 +1,23 @@
+-- `text::adding::put_byte` meets its contract: the byte is kept where there is room.
+use borrow.Author.Needs.{needs}
+use Rattle.text.specs.Laws.{adds-byte, adds-full}
+use Rattle.text.proofs.adding.put_byte.Statement.{statement}
+use Rattle.text.proofs.adding.put_byte.Tie as tie
+
+slice-write-out : tie.Need-slice-write-out
+slice-write-out c = search needs
+
+add-result : tie.Need-add-result
+add-result c = search needs
+
+same-length : tie.Need-same-length
+same-length c = search needs
+
+returns : tie.Need-returns
+returns c = search (adds-byte, needs)
+
+returns-2 : tie.Need-returns-2
+returns-2 c = search (adds-full, needs)
+
+pub put-byte-spec : {M : Type 1} → statement M
+put-byte-spec = tie.close (tie.spec slice-write-out add-result same-length returns returns-2)

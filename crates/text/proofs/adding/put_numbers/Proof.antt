@@ -1,0 +1,63 @@
+-- `text::adding::put_numbers` meets its contract. The loop's invariant: the first i are added.
+use Prim.Native.Nat.{_-_, _≤_}
+use lib.ListN.{length, take}
+use borrow.Author.Needs.{needs}
+use Rattle.text.specs.Added.{Adds}
+use Rattle.text.specs.Digits.{each, spaced}
+use Rattle.text.specs.Laws.{adds-nothing, put-each-more, whole-list}
+use Rattle.text.proofs.adding.put_numbers.Statement.{statement}
+use Rattle.text.proofs.adding.put_numbers.Tie as tie
+
+abbrev Inv-loop : tie.InvT-loop
+Inv-loop out₀ at list end₀ i₀ out end i = (i ≤ length list) × Adds (spaced (take i list)) out₀ at out end
+
+abbrev μ-loop : tie.MeasureT-loop
+μ-loop out₀ at list end₀ i₀ out end i = length list - i
+
+within-requires : tie.Need-within-requires Inv-loop μ-loop
+within-requires c κs = search needs
+
+loop-holds : tie.Need-loop-holds Inv-loop μ-loop
+unfolding each
+loop-holds c = search (adds-nothing, needs)
+
+mul-put-after-space : tie.Need-mul-put-after-space Inv-loop μ-loop
+mul-put-after-space c = search needs
+
+shared-slice-read-put-after-space : tie.Need-shared-slice-read-put-after-space Inv-loop μ-loop
+shared-slice-read-put-after-space c = search needs
+
+put-after-space-requires : tie.Need-put-after-space-requires Inv-loop μ-loop
+put-after-space-requires c κs = search needs
+
+add-i : tie.Need-add-i Inv-loop μ-loop
+add-i c = search needs
+
+loop-less : tie.Need-loop-less Inv-loop μ-loop
+loop-less c = search needs
+
+loop-again : tie.Need-loop-again Inv-loop μ-loop
+loop-again c = search (put-each-more, needs)
+
+same-length : tie.Need-same-length Inv-loop μ-loop
+same-length c = c .before .loop .inv .1 .room
+
+returns : tie.Need-returns Inv-loop μ-loop
+returns c = search (whole-list spaced, needs)
+
+pub put-numbers-spec : {M : Type 1} → statement M
+put-numbers-spec =
+    tie.close
+    (tie.spec
+    Inv-loop
+    μ-loop
+    within-requires
+    loop-holds
+    mul-put-after-space
+    shared-slice-read-put-after-space
+    put-after-space-requires
+    add-i
+    loop-less
+    loop-again
+    same-length
+    returns)

@@ -1,0 +1,34 @@
+-- `text::sending::send` meets its contract, by its test.
+use Rattle.text.specs.Laws.{sent-none, sent-all}
+use borrow.Author.Needs.{needs}
+use Rattle.text.proofs.sending.send.Statement.{statement}
+use Rattle.text.proofs.sending.send.Tie as tie
+
+within-requires : tie.Need-within-requires
+within-requires c κs = search needs
+
+sub-if1 : tie.Need-sub-if1
+sub-if1 c = search needs
+
+returns : tie.Need-returns
+returns c = search (sent-none, needs)
+
+slice-aggregate-write-all : tie.Need-slice-aggregate-write-all
+slice-aggregate-write-all c = search needs
+
+write-all-requires : tie.Need-write-all-requires
+write-all-requires c κs = search needs
+
+returns-2 : tie.Need-returns-2
+returns-2 c = search (sent-all, needs)
+
+pub send-spec : {M : Type 1} → statement M
+send-spec =
+    tie.close
+    (tie.spec
+    within-requires
+    sub-if1
+    returns
+    slice-aggregate-write-all
+    write-all-requires
+    returns-2)

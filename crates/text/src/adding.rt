@@ -1,0 +1,94 @@
+// Text behind the text so far, which ends at a place. Each function answers where the text then ends; past the buffer's end nothing is kept.
+ghost use Prim.Native.Nat.{_<_, min};
+ghost use mathlib.Core.Path.{_≡_};
+ghost use mathlib.Core.List.{[], _∷_};
+ghost use lib.ListN.{length};
+ghost use Rattle.io.specs.Counts.{Counts};
+ghost use Rattle.text.specs.Added.{Adds};
+ghost use Rattle.text.specs.Digits.{digit as Digits·digit, decimal, afterSpace, spaced, twoDigits, hex};
+
+// Where the text so far ends, in the buffer.
+pub fn within(at: usize, out: &[u8]) -> usize
+    ensures { λ r. ⌜ r ≡ min at (length (now (out .entry))) ⌝ }
+    ensures { λ r. ⌜ Counts r (now (out .entry)) ⌝ }
+{
+    if at < out.len() { at } else { out.len() }
+}
+
+pub fn put_byte(out: &mut [u8], at: usize, byte: u8) -> usize
+    ensures { λ r. ⌜ Adds (byte ∷ []) (now (out .entry)) at (now (out .exit)) r ⌝ }
+{
+    if at < out.len() {
+        out[at] = byte;
+        return at + 1;
+    }
+    out.len()
+}
+
+pub fn put(out: &mut [u8], at: usize, more: &[u8]) -> usize
+    ensures { λ r. ⌜ Adds (now (more .entry)) (now (out .entry)) at (now (out .exit)) r ⌝ }
+{
+    let mut end = within(at, out);
+    let mut i = 0;
+    while i < more.len() {
+        end = put_byte(out, end, more[i]);
+        i += 1;
+    }
+    end
+}
+
+// A number in decimal digits.
+pub fn put_number(out: &mut [u8], at: usize, n: u64) -> usize
+    ensures { λ r. ⌜ Adds (decimal n) (now (out .entry)) at (now (out .exit)) r ⌝ }
+{
+    let mut digits = [0u8; 20];
+    let count = io::decimal(n, &mut digits);
+    put(out, at, &digits[..count])
+}
+
+fn put_after_space(out: &mut [u8], at: usize, n: u64) -> usize
+    ensures { λ r. ⌜ Adds (afterSpace n) (now (out .entry)) at (now (out .exit)) r ⌝ }
+{
+    let end = put_byte(out, at, b' ');
+    put_number(out, end, n)
+}
+
+// Numbers, each after a space.
+pub fn put_numbers(out: &mut [u8], at: usize, list: &[u64]) -> usize
+    ensures { λ r. ⌜ Adds (spaced (now (list .entry))) (now (out .entry)) at (now (out .exit)) r ⌝ }
+{
+    let mut end = within(at, out);
+    let mut i = 0;
+    while i < list.len() {
+        end = put_after_space(out, end, list[i]);
+        i += 1;
+    }
+    end
+}
+
+fn digit(n: u8) -> u8
+    requires { ⌜ n < 16 ⌝ }
+    ensures { λ r. ⌜ r ≡ Digits·digit n ⌝ }
+{
+    if n < 10 { 48 + n } else { 55 + n }
+}
+
+fn put_two_digits(out: &mut [u8], at: usize, byte: u8) -> usize
+    ensures { λ r. ⌜ Adds (twoDigits byte) (now (out .entry)) at (now (out .exit)) r ⌝ }
+{
+    let end = put_byte(out, at, digit(byte / 16));
+    put_byte(out, end, digit(byte % 16))
+}
+
+// Bytes, two hexadecimal digits each.
+pub fn put_hex(out: &mut [u8], at: usize, bytes: &[u8]) -> usize
+    ensures { λ r. ⌜ Adds (hex (now (bytes .entry))) (now (out .entry)) at (now (out .exit)) r ⌝ }
+{
+    let mut end = within(at, out);
+    let mut i = 0;
+    while i < bytes.len() {
+        end = put_two_digits(out, end, bytes[i]);
+        i += 1;
+    }
+    end
+}
