@@ -1,0 +1,42 @@
+-- What stands next, for each way that the tests can go.
+use Prim.Native.Nat.{ℕ, _+_, _<_, _≤_}
+use mathlib.Core.Path.{_≡_}
+use mathlib.Core.Bool.{Bool, true, false, not}
+use native.Mathlib.Omega.{arith}
+use lib.ListN.{length}
+use borrow.Author.Tests.{eq-eqb, ne-eqb, lt-ltb, le-ltb}
+use Rattle.rules.specs.Payload.{Bytes}
+use Rattle.script.specs.declared.Record.{Record}
+use Rattle.script.specs.declared.Next.the-variants.{Play, End, Cut, Bad}
+use Rattle.script.specs.Records.{recordIn, fits, nextIn}
+
+module _ (p : Bytes) where
+  pub ends : length p ≡ 0 → End ≡ nextIn p
+  unfolding nextIn
+  ends h = rw (eq-eqb (length p) 0 h)
+
+  module _ (some : length p ≡ 0 → ⊥) where
+    pub cuts-header : length p < 24 → Cut ≡ nextIn p
+    unfolding nextIn
+    cuts-header h = rw (ne-eqb (length p) 0 some, lt-ltb (length p) 24 h)
+
+    module _ (whole : 24 ≤ length p) (r : Record) (is : r ≡ recordIn p) where
+      pub ends-by-record : r .kind ≡ 0 → End ≡ nextIn p
+      unfolding nextIn
+      ends-by-record h = rw (ne-eqb (length p) 0 some, le-ltb (length p) 24 whole, ← is, eq-eqb (r .kind) 0 h)
+
+      module _ (other : r .kind ≡ 0 → ⊥) (test : Bool) (tests : test ≡ fits r) where
+        pub bad : not test ≡ true → Bad (r .kind) ≡ nextIn p
+        unfolding nextIn
+        bad h = rw (ne-eqb (length p) 0 some, le-ltb (length p) 24 whole, ← is, ne-eqb (r .kind) 0 other, ← tests, h)
+
+        module _ (h : not test ≡ false) (len : ℕ) (size : len ≡ r .len) where
+          pub cuts-payload : length p < 24 + len → Cut ≡ nextIn p
+          unfolding nextIn
+          cuts-payload short =
+              rw (ne-eqb (length p) 0 some, le-ltb (length p) 24 whole, ← is, ne-eqb (r .kind) 0 other, ← tests, h, lt-ltb (length p) (24 + r .len) (omega arith))
+
+          pub plays : 24 + len ≤ length p → Play r ≡ nextIn p
+          unfolding nextIn
+          plays long =
+              rw (ne-eqb (length p) 0 some, le-ltb (length p) 24 whole, ← is, ne-eqb (r .kind) 0 other, ← tests, h, le-ltb (length p) (24 + r .len) (omega arith))

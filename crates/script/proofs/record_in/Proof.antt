@@ -1,0 +1,59 @@
+-- `script::record_in` meets its contract: each field is the number at its offset.
+use Rattle.script.specs.Records.{recordIn}
+use borrow.Author.Needs.{needs}
+use Rattle.script.proofs.record_in.Statement.{statement}
+use Rattle.script.proofs.record_in.Tie as tie
+
+byte-at-requires : tie.Need-byte-at-requires
+byte-at-requires c κs = search needs
+
+byte-at-requires-2 : tie.Need-byte-at-requires-2
+byte-at-requires-2 c κs = search needs
+
+byte-at-requires-3 : tie.Need-byte-at-requires-3
+byte-at-requires-3 c κs = search needs
+
+byte-at-requires-4 : tie.Need-byte-at-requires-4
+byte-at-requires-4 c κs = search needs
+
+byte-at-requires-5 : tie.Need-byte-at-requires-5
+byte-at-requires-5 c κs = search needs
+
+byte-at-requires-6 : tie.Need-byte-at-requires-6
+byte-at-requires-6 c κs = search needs
+
+u16-at-requires : tie.Need-u16-at-requires
+u16-at-requires c κs = search needs
+
+u32-at-requires : tie.Need-u32-at-requires
+u32-at-requires c κs = search needs
+
+u32-at-requires-2 : tie.Need-u32-at-requires-2
+u32-at-requires-2 c κs = search needs
+
+u32-at-requires-3 : tie.Need-u32-at-requires-3
+u32-at-requires-3 c κs = search needs
+
+u32-at-requires-4 : tie.Need-u32-at-requires-4
+u32-at-requires-4 c κs = search needs
+
+returns : tie.Need-returns
+unfolding recordIn
+returns c = cc
+
+pub record-in-spec : {M : Type 1} → statement M
+record-in-spec =
+    tie.close
+    (tie.spec
+    byte-at-requires
+    byte-at-requires-2
+    byte-at-requires-3
+    byte-at-requires-4
+    byte-at-requires-5
+    byte-at-requires-6
+    u16-at-requires
+    u32-at-requires
+    u32-at-requires-2
+    u32-at-requires-3
+    u32-at-requires-4
+    returns)

@@ -1,0 +1,2 @@
+-- The form of call scripts.
+pub mod Records

@@ -1,0 +1,58 @@
+-- Records of a call script, and when one can be played. "A script is a row of records. Each record is a header of exactly 24 bytes and then
+-- `len` payload bytes. All numbers are little-endian and unsigned."
+use Prim.Native.Nat.{ℕ, _+_}
+use mathlib.Core.Bool.{Bool, not, _&&_, _||_, cond}
+use lib.Dec.{eqb, ltb, leb}
+use lib.ListN.{length, getD}
+use Rattle.rules.specs.Limits.{maxJumps}
+use Rattle.rules.specs.Payload.{Bytes, numberAt}
+use Rattle.script.specs.declared.Record.{Record}
+use Rattle.script.specs.declared.Next.{Next}
+use Rattle.script.specs.declared.Next.the-variants.{Play, End, Cut, Bad}
+
+unfoldable pub recordIn : Bytes → Record
+recordIn p =
+    record {
+      kind = getD p 0 0;
+      b0 = getD p 1 0;
+      b1 = getD p 2 0;
+      b2 = getD p 3 0;
+      b3 = getD p 4 0;
+      b4 = getD p 5 0;
+      len = numberAt 2 6 p;
+      a = numberAt 4 8 p;
+      clock = numberAt 4 12 p;
+      store = numberAt 4 16 p;
+      reply = numberAt 4 20 p;
+    }
+
+-- POKE: fields 0 to 9 are numbers of a plan, 10 and 11 of the state, 12 a jump count
+unfoldable pub pokeFits : (field index : ℕ) → Bool
+pokeFits field index = leb field 9 && ltb index 3 || (eqb field 10 || eqb field 11) && eqb index 0 || eqb field 12 && ltb index maxJumps
+
+-- WRITE: up to the end of the store array
+unfoldable pub writeFits : (at len : ℕ) → Bool
+writeFits at len = leb (at + len) 26880
+
+-- MESSAGE 1, TIMER 2, DONE 3, DUMP 4, SNAP 6 and CMP 7; FRESH 5 without a setting; POKE 8; WRITE 9. "len above 300, store above 26,880,
+-- reply above 64 .. the program stops"
+unfoldable pub fits : Record → Bool
+fits r =
+    (leb (r .kind) 7 && not (eqb (r .kind) 5)
+    || eqb (r .kind) 5 && eqb (r .b4) 0
+    || eqb (r .kind) 8 && pokeFits (r .b4) (r .b0)
+    || eqb (r .kind) 9 && writeFits (r .a) (r .len))
+    && leb (r .len) 300
+    && leb (r .store) 26880
+    && leb (r .reply) 64
+
+-- "A script .. ends with a record 0; the end of input counts as a record 0"; "A record cut by the end of input: `? cut`"
+unfoldable pub nextIn : Bytes → Next
+nextIn p =
+    let r = recordIn p in
+    cond (eqb (length p) 0) End
+    (cond (ltb (length p) 24) Cut
+    (cond (eqb (r .kind) 0) End
+    (cond (not (fits r)) (Bad (r .kind))
+    (cond (ltb (length p) (24 + r .len)) Cut
+    (Play r)))))

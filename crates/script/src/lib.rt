@@ -1,0 +1,145 @@
+// Call scripts: the record that stands next, read from the bytes that are left. A record is a header of 24 bytes and a payload; its numbers
+// are little-endian.
+ghost use mathlib.Core.Path.{_≡_};
+ghost use Rattle.script.specs.Records.{recordIn, pokeFits, writeFits, fits as Records·fits, nextIn};
+use fields::byte_at;
+use fields::u16_at;
+use fields::u32_at;
+use limits::JUMP_COUNTS;
+
+// The types of records.
+pub const END: u8 = 0;
+
+pub const MESSAGE: u8 = 1;
+
+pub const TIMER: u8 = 2;
+
+pub const DONE: u8 = 3;
+
+pub const DUMP: u8 = 4;
+
+pub const FRESH: u8 = 5;
+
+pub const SNAP: u8 = 6;
+
+pub const CMP: u8 = 7;
+
+pub const POKE: u8 = 8;
+
+pub const WRITE: u8 = 9;
+
+pub const HEADER_BYTES: usize = 24;
+
+pub const MOST_PAYLOAD: u16 = 300;
+
+// The lengths of the arrays that a script's calls are lent.
+pub const STORE_ARRAY: usize = 26880;
+
+pub const REPLY_ARRAY: usize = 64;
+
+// A record's header; store and reply are the lengths lent to the call.
+pub struct Record {
+    pub kind: u8,
+    pub b0: u8,
+    pub b1: u8,
+    pub b2: u8,
+    pub b3: u8,
+    pub b4: u8,
+    pub len: u16,
+    pub a: u32,
+    pub clock: u32,
+    pub store: u32,
+    pub reply: u32,
+}
+
+// What stands next in a script: a record whose payload follows its header, the end, a record that the end of input cuts, or one that cannot
+// be played, with its type.
+pub enum Next {
+    Play(Record),
+    End,
+    Cut,
+    Bad(u8),
+}
+
+fn record_in(bytes: &[u8]) -> Record
+    ensures { λ r. ⌜ r ≡ recordIn (now (bytes .entry)) ⌝ }
+{
+    Record {
+        kind: byte_at(bytes, 0),
+        b0: byte_at(bytes, 1),
+        b1: byte_at(bytes, 2),
+        b2: byte_at(bytes, 3),
+        b3: byte_at(bytes, 4),
+        b4: byte_at(bytes, 5),
+        len: u16_at(bytes, 6),
+        a: u32_at(bytes, 8),
+        clock: u32_at(bytes, 12),
+        store: u32_at(bytes, 16),
+        reply: u32_at(bytes, 20),
+    }
+}
+
+// Whether a number of the state has such a field and index.
+fn poke_fits(field: u8, index: u8) -> bool
+    ensures { λ r. ⌜ r ≡ pokeFits field index ⌝ }
+{
+    (field <= 9) & (index < 3)
+        | ((field == 10) | (field == 11)) & (index == 0)
+        | (field == 12) & ((index as usize) < JUMP_COUNTS)
+}
+
+// A length as a number of bytes.
+pub fn size(n: u32) -> usize
+    ensures { λ r. ⌜ r ≡ n ⌝ }
+{
+    n as usize
+}
+
+fn payload_size(n: u16) -> usize
+    ensures { λ r. ⌜ r ≡ n ⌝ }
+{
+    n as usize
+}
+
+// Whether a payload fits the store array from a place on.
+fn write_fits(at: u32, len: u16) -> bool
+    ensures { λ r. ⌜ r ≡ writeFits at len ⌝ }
+{
+    size(at) + payload_size(len) <= STORE_ARRAY
+}
+
+// Whether a record can be played.
+fn fits(r: Record) -> bool
+    ensures { λ t. ⌜ t ≡ Records·fits r ⌝ }
+{
+    let known = (r.kind <= CMP) & (r.kind != FRESH)
+        | (r.kind == FRESH) & (r.b4 == 0)
+        | (r.kind == POKE) & poke_fits(r.b4, r.b0)
+        | (r.kind == WRITE) & write_fits(r.a, r.len);
+    known
+        & (r.len <= MOST_PAYLOAD)
+        & (size(r.store) <= STORE_ARRAY)
+        & (size(r.reply) <= REPLY_ARRAY)
+}
+
+pub fn next_record(bytes: &[u8]) -> Next
+    ensures { λ r. ⌜ r ≡ nextIn (now (bytes .entry)) ⌝ }
+{
+    if bytes.len() == 0 {
+        return Next::End;
+    }
+    if bytes.len() < HEADER_BYTES {
+        return Next::Cut;
+    }
+    let r = record_in(bytes);
+    if r.kind == END {
+        return Next::End;
+    }
+    if !fits(r) {
+        return Next::Bad(r.kind);
+    }
+    if bytes.len() < HEADER_BYTES + payload_size(r.len) {
+        return Next::Cut;
+    }
+    Next::Play(r)
+}
