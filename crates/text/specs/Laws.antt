@@ -90,6 +90,13 @@ module _ (l before between after : List ℕ) (at i n r : ℕ) (h : i < length l)
 pub whole-list : (text : List ℕ → List ℕ) (l before after : List ℕ) (at i r : ℕ) → length l ≤ i → Adds (text (take i l)) before at after r → Adds (text l) before at after r
 whole-list text l before after at i r most adds = rw (take-all i l most) at adds
 
+-- the front of a list
+pub counted : (n : ℕ) (l : List ℕ) → n < length l → n ≡ length (take n l)
+counted n l h = sym (length-take-le n l (omega arith))
+
+pub all-front : (n : ℕ) (l : List ℕ) → length l ≤ n → l ≡ take n l
+all-front n l h = sym (take-all n l h)
+
 -- the places in a buffer, and its end for those past it
 pub within-place : (n r : ℕ) (l : List ℕ) → r ≡ min n (length l) → (r ≡ min n (length l)) × Counts r l
 within-place n r l e = let h : r ≤ length l = omega arith in (e, (h, sym (length-take-le r l h)))

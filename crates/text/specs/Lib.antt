@@ -4,3 +4,4 @@ pub mod Digits
 pub mod Laws
 pub mod Numbers
 pub mod Unread
+pub mod Words

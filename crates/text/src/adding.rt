@@ -2,7 +2,7 @@
 ghost use Prim.Native.Nat.{_<_, min};
 ghost use mathlib.Core.Path.{_≡_};
 ghost use mathlib.Core.List.{[], _∷_};
-ghost use lib.ListN.{length};
+ghost use lib.ListN.{length, take};
 ghost use Rattle.io.specs.Counts.{Counts};
 ghost use Rattle.text.specs.Added.{Adds};
 ghost use Rattle.text.specs.Digits.{digit as Digits·digit, decimal, afterSpace, spaced, twoDigits, hex};
@@ -13,6 +13,16 @@ pub fn within(at: usize, out: &[u8]) -> usize
     ensures { λ r. ⌜ Counts r (now (out .entry)) ⌝ }
 {
     if at < out.len() { at } else { out.len() }
+}
+
+// The first bytes, or all where there are fewer.
+pub fn front(bytes: &[u8], n: usize) -> &[u8]
+    ensures { λ r. ⌜ now r ≡ take n (now (bytes .entry)) ⌝ }
+{
+    if n < bytes.len() {
+        return &bytes[..n];
+    }
+    bytes
 }
 
 pub fn put_byte(out: &mut [u8], at: usize, byte: u8) -> usize

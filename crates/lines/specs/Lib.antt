@@ -1,0 +1,2 @@
+-- The lines that a call script's records print.
+pub mod Lines

@@ -1,0 +1,68 @@
+// The lines that a call script's records print, each put behind the text so far.
+ghost use mathlib.Core.Path.{_≡_};
+ghost use mathlib.Core.List.{_∷_};
+ghost use lib.ListN.{drop};
+ghost use Rattle.text.specs.Added.{Adds};
+ghost use Rattle.lines.specs.Lines.{begun, replyText, untouched as Lines·untouched, markedEnd, servedLine};
+
+// What a reply array holds before a call.
+pub const REPLY_FILL: u8 = 0xA5;
+
+// A letter and numbers: what every line begins with.
+fn put_begun(out: &mut [u8], at: usize, letter: u8, list: &[u64]) -> usize
+    ensures { λ r. ⌜ Adds (begun letter (now (list .entry))) (now (out .entry)) at (now (out .exit)) r ⌝ }
+{
+    let end = text::put_byte(out, at, letter);
+    text::put_numbers(out, end, list)
+}
+
+fn put_reply(out: &mut [u8], at: usize, len: usize, reply: &[u8]) -> usize
+    ensures { λ r. ⌜ Adds (32 ∷ replyText len (now (reply .entry))) (now (out .entry)) at (now (out .exit)) r ⌝ }
+{
+    let end = text::put_byte(out, at, b' ');
+    if len == 0 {
+        return text::put_byte(out, end, b'-');
+    }
+    text::put_hex(out, end, text::front(reply, len))
+}
+
+// Whether the bytes of a reply array from len on are what they were before the call.
+fn untouched(reply: &[u8], len: usize) -> bool
+    ensures { λ r. ⌜ r ≡ Lines·untouched (drop len (now (reply .entry))) ⌝ }
+{
+    let mut i = len;
+    while i < reply.len() {
+        if reply[i] != REPLY_FILL {
+            return false;
+        }
+        i += 1;
+    }
+    true
+}
+
+fn put_end(out: &mut [u8], at: usize, clean: bool) -> usize
+    ensures { λ r. ⌜ Adds (markedEnd clean) (now (out .entry)) at (now (out .exit)) r ⌝ }
+{
+    if clean {
+        return text::put_byte(out, at, b'\n');
+    }
+    text::put(out, at, b" B\n")
+}
+
+// What a message or a timer call returned, and the reply.
+pub fn put_served(
+    out: &mut [u8],
+    at: usize,
+    letter: u8,
+    outcome: u8,
+    id: u32,
+    len: usize,
+    reply: &[u8],
+) -> usize
+    ensures { λ r. ⌜ Adds (servedLine letter outcome id len (now (reply .entry))) (now (out .entry)) at (now (out .exit)) r ⌝ }
+{
+    let list = [outcome as u64, id as u64, len as u64];
+    let end = put_begun(out, at, letter, &list);
+    let end = put_reply(out, end, len, reply);
+    put_end(out, end, untouched(reply, len))
+}
