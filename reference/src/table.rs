@@ -4,7 +4,7 @@
 use std::collections::HashMap;
 
 use crate::layout::{address, Address, Item};
-use crate::limits::MAX_JUMPS;
+use crate::limits::{KINDS, MAX_JUMPS};
 use crate::script::{MAX_PAYLOAD, REPLY_ARRAY, STORE_ARRAY};
 
 /// How many tests a value's pattern is put to.
@@ -265,12 +265,16 @@ impl<'a> Words<'a> {
     }
 
     fn upload(&mut self) -> Result<Setting, String> {
-        let kind = self.at_most("KIND", 2)? as u8;
-        let mut numbers = [0; 6];
-        let names = ["SYSTEM", "COMPONENT", "COUNT", "NEXT", "START", "REPEATS"];
-        for (number, name) in numbers.iter_mut().zip(names) {
-            *number = self.number(name)?;
-        }
+        let kind = self.at_most("KIND", KINDS - 1)? as u8;
+        let (byte, half) = (usize::from(u8::MAX), usize::from(u16::MAX));
+        let numbers = [
+            self.at_most("SYSTEM", byte)? as u32,
+            self.at_most("COMPONENT", byte)? as u32,
+            self.at_most("COUNT", half)? as u32,
+            self.at_most("NEXT", half)? as u32,
+            self.number("START")?,
+            self.at_most("REPEATS", byte)? as u32,
+        ];
         Ok(Setting::Upload { kind, numbers })
     }
 
@@ -453,43 +457,45 @@ mod tests {
         assert_eq!(set("a: w 26878 0102"), Act::Set(write));
     }
 
+    /// Rows that cannot be read, and why.
+    const UNREAD: &[(&str, &str)] = &[
+        ("f", "no NAME:"),
+        (": f", "no NAME:"),
+        ("a: q", "no OP q without a WANTED"),
+        ("a: m 44 01", "no OP m without a WANTED"),
+        ("a: f > 1", "no OP f with a WANTED"),
+        ("a:", "OP is missing"),
+        ("a: f 1", "1: too much"),
+        ("a: t > 1", "KIND is missing"),
+        ("a: t 256 > 1", "KIND 256: no number that fits"),
+        ("a: t 1 >", "OUTCOME is missing"),
+        ("a: t 1 > 0 51", "BYTES is missing"),
+        ("a: t 1 > 0 51 00 00", "00: too much"),
+        ("a: m 44 012 > 1", "012: not at most 300 bytes in hex"),
+        ("a: m 44 0x > 1", "0x: not at most 300 bytes in hex"),
+        ("a: u 0 0 16 3 > 0", "COUNT is 0"),
+        ("a: u 0 1 16 > 0", "FRAME is missing"),
+        ("a: u 0 1 16 3 0.1 > 0", "PARAM1 0.1: not exactly a float of 32 bits"),
+        ("a: u 0 1 16 3 nan > 0", "PARAM1 nan: not exactly a float of 32 bits"),
+        ("a: u 0 1 16 3 1e39 > 0", "PARAM1 1e39: not exactly a float of 32 bits"),
+        ("a: u 0 1 16 3 0x7fc > 0", "PARAM1 0x7fc: not eight hex digits"),
+        ("a: u 0 1 16 3 0 0 2147483648 > 0", "X 2147483648: no number that fits"),
+        ("a: i 0 2 1 16 3 > 1", "LAST is below FIRST"),
+        ("a: n 43 2 1 > 1", "LAST is below FIRST"),
+        ("a: n 43 0 301 > 1", "LAST 301: above 300"),
+        ("a: l 26881 54", "STORE 26881: above 26880"),
+        ("a: w 26879 0102", "0102: not at most 1 bytes in hex"),
+        ("a: v 0x7fc00000 > 7 6 6", "RESULT is missing"),
+        ("a: d >", "OUTCOME is missing"),
+        ("a: d > 1 fly 0,", "counts is missing"),
+        ("a: d > 1 fly 0, 1", "1: not `counts`"),
+        ("a: d > 15 stuck, counts 0", "a refused call has no counts"),
+        ("a: d > 1 stuck, counts 0 0 0 0 0 0 0 0 0 0 0 0 0 0 0 0", "0: too much"),
+    ];
+
     #[test]
     fn an_error_names_its_line() {
-        let errors = [
-            ("f", "no NAME:"),
-            (": f", "no NAME:"),
-            ("a: q", "no OP q without a WANTED"),
-            ("a: m 44 01", "no OP m without a WANTED"),
-            ("a: f > 1", "no OP f with a WANTED"),
-            ("a:", "OP is missing"),
-            ("a: f 1", "1: too much"),
-            ("a: t > 1", "KIND is missing"),
-            ("a: t 256 > 1", "KIND 256: no number that fits"),
-            ("a: t 1 >", "OUTCOME is missing"),
-            ("a: t 1 > 0 51", "BYTES is missing"),
-            ("a: t 1 > 0 51 00 00", "00: too much"),
-            ("a: m 44 012 > 1", "012: not at most 300 bytes in hex"),
-            ("a: m 44 0x > 1", "0x: not at most 300 bytes in hex"),
-            ("a: u 0 0 16 3 > 0", "COUNT is 0"),
-            ("a: u 0 1 16 > 0", "FRAME is missing"),
-            ("a: u 0 1 16 3 0.1 > 0", "PARAM1 0.1: not exactly a float of 32 bits"),
-            ("a: u 0 1 16 3 nan > 0", "PARAM1 nan: not exactly a float of 32 bits"),
-            ("a: u 0 1 16 3 1e39 > 0", "PARAM1 1e39: not exactly a float of 32 bits"),
-            ("a: u 0 1 16 3 0x7fc > 0", "PARAM1 0x7fc: not eight hex digits"),
-            ("a: u 0 1 16 3 0 0 2147483648 > 0", "X 2147483648: no number that fits"),
-            ("a: i 0 2 1 16 3 > 1", "LAST is below FIRST"),
-            ("a: n 43 2 1 > 1", "LAST is below FIRST"),
-            ("a: n 43 0 301 > 1", "LAST 301: above 300"),
-            ("a: l 26881 54", "STORE 26881: above 26880"),
-            ("a: w 26879 0102", "0102: not at most 1 bytes in hex"),
-            ("a: v 0x7fc00000 > 7 6 6", "RESULT is missing"),
-            ("a: d >", "OUTCOME is missing"),
-            ("a: d > 1 fly 0,", "counts is missing"),
-            ("a: d > 1 fly 0, 1", "1: not `counts`"),
-            ("a: d > 15 stuck, counts 0", "a refused call has no counts"),
-            ("a: d > 1 stuck, counts 0 0 0 0 0 0 0 0 0 0 0 0 0 0 0 0", "0: too much"),
-        ];
-        for (text, error) in errors {
+        for (text, error) in UNREAD {
             let table = format!("# first\nfirst: t 0 > 1\n{text}\n");
             assert_eq!(read(&table).unwrap_err(), format!("line 3: {error}"), "{text}");
         }

@@ -16,8 +16,8 @@ use crate::table::{Act, Call, Reply, Row, Setting, TESTS};
 /// What fills the store at a fresh start.
 const STORE_FILL: u8 = 0xEE;
 
-/// Each test of a value: its result if it fails, the item's kind, command and
-/// frame, and which param has the value.
+/// Each test of a value: the item's kind, command and frame, and which of its
+/// params has the value.
 const VALUE_TESTS: [(u8, u16, u8, usize); TESTS] =
     [(0, 178, 2, 1), (0, 16, 3, 0), (1, 5003, 3, 0), (0, 115, 2, 0)];
 
@@ -248,17 +248,19 @@ pub struct Miss {
     /// The record whose line it is.
     pub record: String,
     pub wanted: String,
-    /// Which program printed another line, and that line.
-    pub program: &'static str,
-    pub got: String,
+    /// Each program, and its line.
+    pub got: Vec<(&'static str, String)>,
 }
 
 impl fmt::Display for Miss {
     fn fmt(&self, f: &mut fmt::Formatter) -> fmt::Result {
         writeln!(f, "line {}: {}", self.line, self.name)?;
         writeln!(f, "  record:    {}", self.record)?;
-        writeln!(f, "  wanted:    {}", self.wanted)?;
-        write!(f, "  {:10} {}", format!("{}:", self.program), self.got)
+        write!(f, "  wanted:    {}", self.wanted)?;
+        for (program, line) in &self.got {
+            write!(f, "\n  {:10} {line}", format!("{program}:"))?;
+        }
+        Ok(())
     }
 }
 
@@ -311,58 +313,65 @@ fn of_dump(line: &str) -> bool {
 }
 
 impl Want {
-    /// What was wanted and what came instead, where these are not the same.
-    fn missed(&self, share: &[&str]) -> Option<(String, String)> {
-        let last = share.last().copied().unwrap_or("no line");
-        let (wanted, got) = match self {
-            Want::Any => return None,
-            Want::Line(line) => (line.clone(), last.to_string()),
-            Want::Counts(counts) => (format!("counts {counts}"), counts_shown(last)),
-        };
-        (wanted != got).then_some((wanted, got))
+    fn holds(&self, share: &[&str]) -> bool {
+        match (self, share.last()) {
+            (Want::Any, _) => true,
+            (Want::Line(line), Some(last)) => line == last,
+            (Want::Counts(counts), Some(last)) => counts_of(last) == Some(counts),
+            (_, None) => false,
+        }
+    }
+
+    fn in_words(&self) -> String {
+        match self {
+            Want::Any => "the same of each".to_string(),
+            Want::Line(line) => line.clone(),
+            Want::Counts(counts) => format!("c CURRENT BEGUN {counts}"),
+        }
     }
 }
 
-/// The counts of a `c` line; another line as it is.
-fn counts_shown(line: &str) -> String {
-    match line.splitn(4, ' ').collect::<Vec<_>>()[..] {
-        ["c", _, _, counts] => format!("counts {counts}"),
-        _ => line.to_string(),
+/// The counts of a `c` line.
+fn counts_of(line: &str) -> Option<&str> {
+    let mut words = line.splitn(4, ' ');
+    match (words.next(), words.nth(2)) {
+        (Some("c"), counts) => counts,
+        _ => None,
     }
 }
 
-/// The first line that two programs do not share.
-fn apart(one: &[&str], other: &[&str]) -> Option<(String, String)> {
-    let at = (0..one.len().max(other.len())).find(|at| one.get(*at) != other.get(*at))?;
-    let shown = |lines: &[&str]| lines.get(at).copied().unwrap_or("no line").to_string();
-    Some((shown(one), shown(other)))
+/// The first place where the programs' shares are not the same.
+fn first_apart(shares: &[&[&str]]) -> Option<usize> {
+    let most = shares.iter().map(|share| share.len()).max()?;
+    (0..most).find(|at| shares.iter().any(|share| share.get(*at) != shares[0].get(*at)))
 }
 
-/// Each case with a line that is not as wanted, or not as the first program
-/// has it; of each, its first such line.
+/// What is wanted of a record, and each program's line, where these are not as
+/// wanted or not the same.
+fn missed<'a>(want: &Want, shares: &[&[&'a str]]) -> Option<(String, Vec<Option<&'a str>>)> {
+    if !shares.iter().all(|share| want.holds(share)) {
+        return Some((want.in_words(), shares.iter().map(|share| share.last().copied()).collect()));
+    }
+    let at = first_apart(shares)?;
+    Some((Want::Any.in_words(), shares.iter().map(|share| share.get(at).copied()).collect()))
+}
+
+/// Each case with a line that is not as wanted, or not the same of all
+/// programs; of each, its first such line.
 pub fn misses(script: &Script, programs: &[Printed]) -> Vec<Miss> {
-    let shares: Vec<_> =
-        programs.iter().map(|program| shares(&script.steps, &program.text)).collect();
+    let parted: Vec<_> = programs.iter().map(|one| shares(&script.steps, &one.text)).collect();
     let mut misses: Vec<Miss> = Vec::new();
     for (at, step) in script.steps.iter().enumerate() {
-        let row = &script.rows[step.row];
-        if misses.last().is_some_and(|miss| miss.line == row.line) {
+        let Row { line, name, .. } = &script.rows[step.row];
+        if misses.last().is_some_and(|miss| miss.line == *line) {
             continue;
         }
-        let found = programs.iter().zip(&shares).find_map(|(program, share)| {
-            let missed = step.want.missed(&share[at]).or_else(|| apart(&shares[0][at], &share[at]));
-            missed.map(|missed| (program.program, missed))
-        });
-        if let Some((program, (wanted, got))) = found {
-            let (line, name) = (row.line, row.name.clone());
-            misses.push(Miss {
-                line,
-                name,
-                record: describe_record(&step.record),
-                wanted,
-                program,
-                got,
-            });
+        let shares: Vec<&[&str]> = parted.iter().map(|shares| &shares[at][..]).collect();
+        if let Some((wanted, got)) = missed(&step.want, &shares) {
+            let (name, record) = (name.clone(), describe_record(&step.record));
+            let lines = got.iter().map(|line| line.unwrap_or("no line").to_string());
+            let got = programs.iter().map(|one| one.program).zip(lines).collect();
+            misses.push(Miss { line: *line, name, record, wanted, got });
         }
     }
     misses
@@ -423,7 +432,7 @@ mod tests {
                     let found = misses(&script, &programs);
                     assert_eq!(found.len(), 1, "line {line}");
                     assert_eq!((found[0].line, &found[0].name), (line, &row.name));
-                    assert_ne!(found[0].wanted, found[0].got);
+                    assert_ne!(found[0].wanted, found[0].got[0].1);
                     rows[at] = row;
                 }
             }
@@ -447,9 +456,9 @@ mod tests {
             programs[1].text.clone_from(&good);
             programs[1].text.insert(*end, '0');
             let found = misses(&script, &programs);
-            assert_eq!(found.len(), 1);
-            assert_eq!(found[0].program, "console");
-            assert_eq!(found[0].got, format!("{}0", found[0].wanted));
+            let [Miss { got, .. }] = &found[..] else { panic!("{found:?}") };
+            let [("reference", line), ("console", changed)] = &got[..] else { panic!("{got:?}") };
+            assert_eq!(*changed, format!("{line}0"));
         }
     }
 
@@ -460,7 +469,7 @@ mod tests {
         let good = Printed::by_reference(&script).text;
         let found = |text: String| {
             let found = misses(&script, &[Printed::by_reference(&script), console(text)]);
-            found.into_iter().map(|miss| (miss.line, miss.got)).collect::<Vec<_>>()
+            found.into_iter().map(|miss| (miss.line, miss.got[1].1.clone())).collect::<Vec<_>>()
         };
         assert_eq!(found(good.clone()), []);
         assert_eq!(found(format!("{good}more\n")), [(2, "more".to_string())]);
@@ -493,8 +502,11 @@ mod tests {
         let rows = table::read(text).unwrap();
         let script = Script::of(&rows);
         let found = misses(&script, &[Printed::by_reference(&script)]);
-        let shown = [(5, "counts 1 0 0 0 0 0 0 0 0 0 0 0 0 0 0")];
-        assert_eq!(found.iter().map(|miss| (miss.line, &miss.got[..])).collect::<Vec<_>>(), shown);
+        let shown = [(5, "c 0 1 1 0 0 0 0 0 0 0 0 0 0 0 0 0 0")];
+        assert_eq!(
+            found.iter().map(|miss| (miss.line, &miss.got[0].1[..])).collect::<Vec<_>>(),
+            shown
+        );
     }
 
     #[test]

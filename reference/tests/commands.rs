@@ -73,7 +73,7 @@ fn a_console_that_prints_nothing() {
     let (status, out, _) = run(&["vectors", "--table", table.name(), "--console", PROGRAM]);
     assert_eq!(status, Some(1));
     assert!(out.contains("line 1: count\n"), "{out}");
-    assert!(out.contains("  wanted:    m 0 51 4 0000FFBE\n  console:   no line\n"), "{out}");
+    assert!(out.contains("  reference: m 0 51 4 0000FFBE\n  console:   no line\n"), "{out}");
     assert!(out.ends_with("vectors: 3 of 3 cases differ\n"), "{out}");
 }
 
