@@ -122,10 +122,10 @@ pub fn read(text: &str) -> Result<Vec<Row>, String> {
         }
         rows.push(row);
     }
-    match lines_of.is_empty() {
-        true => Err("no case".to_string()),
-        false => Ok(rows),
+    if lines_of.is_empty() {
+        return Err("no case".to_string());
     }
+    Ok(rows)
 }
 
 /// Reads the row of a line.
@@ -173,31 +173,35 @@ fn read_call(args: &mut Words, wanted: &mut Words) -> Result<Call, String> {
         "i" => read_items(args, wanted)?,
         "u" => read_upload(args, wanted)?,
         "v" => Call::Value { pattern: args.pattern("PATTERN")?, results: wanted.results()? },
-        "n" => Call::Lengths {
-            id: args.number("ID")?,
-            first: args.at_most("FIRST", MAX_PAYLOAD)?,
-            last: args.at_most("LAST", MAX_PAYLOAD)?,
-            wanted: wanted.reply()?,
-        },
+        "n" => read_lengths(args, wanted)?,
         "d" => read_done(wanted)?,
         op => return Err(format!("no OP {op} with a WANTED")),
     };
-    match call {
-        Call::Lengths { first, last, .. } if last < first => Err("LAST is below FIRST")?,
-        _ => {}
-    }
     args.end()?;
     wanted.end()?;
     Ok(call)
 }
 
-fn read_items(args: &mut Words, wanted: &mut Words) -> Result<Call, String> {
-    let (kind, seq, last) = (args.number("KIND")?, args.number("FIRST")?, args.number("LAST")?);
-    if last < seq {
+fn in_order<T: PartialOrd>(first: T, last: T) -> Result<(), String> {
+    if last < first {
         return Err("LAST is below FIRST".to_string());
     }
+    Ok(())
+}
+
+fn read_items(args: &mut Words, wanted: &mut Words) -> Result<Call, String> {
+    let (kind, seq, last) = (args.number("KIND")?, args.number("FIRST")?, args.number("LAST")?);
+    in_order(seq, last)?;
     let item = Item { kind, seq, ..args.item()? };
     Ok(Call::Items { item, last, wanted: wanted.reply()? })
+}
+
+fn read_lengths(args: &mut Words, wanted: &mut Words) -> Result<Call, String> {
+    let id = args.number("ID")?;
+    let first = args.at_most("FIRST", MAX_PAYLOAD)?;
+    let last = args.at_most("LAST", MAX_PAYLOAD)?;
+    in_order(first, last)?;
+    Ok(Call::Lengths { id, first, last, wanted: wanted.reply()? })
 }
 
 fn read_upload(args: &mut Words, wanted: &mut Words) -> Result<Call, String> {

@@ -288,10 +288,10 @@ impl Printed {
     }
 }
 
-/// Parts a program's lines by the records that print them; what is left over
-/// goes to the last record.
+/// Parts a program's lines, with their ends, by the records that print them;
+/// what is left over goes to the last record.
 fn shares<'a>(steps: &[Step], text: &'a str) -> Vec<Vec<&'a str>> {
-    let mut lines = text.split_terminator('\n').peekable();
+    let mut lines = text.split_inclusive('\n').peekable();
     let mut shares: Vec<Vec<&str>> = Vec::with_capacity(steps.len());
     for step in steps {
         let share = match step.record.kind {
@@ -314,7 +314,8 @@ fn of_dump(line: &str) -> bool {
 
 impl Want {
     fn holds(&self, share: &[&str]) -> bool {
-        match (self, share.last()) {
+        let last = share.last().and_then(|line| line.strip_suffix('\n'));
+        match (self, last) {
             (Want::Any, _) => true,
             (Want::Line(line), Some(last)) => line == last,
             (Want::Counts(counts), Some(last)) => counts_of(last) == Some(counts),
@@ -328,6 +329,15 @@ impl Want {
             Want::Line(line) => line.clone(),
             Want::Counts(counts) => format!("c CURRENT BEGUN {counts}"),
         }
+    }
+}
+
+/// A line without its end.
+fn shown(line: Option<&str>) -> String {
+    match line.map(|line| line.strip_suffix('\n').ok_or(line)) {
+        None => "no line".to_string(),
+        Some(Ok(whole)) => whole.to_string(),
+        Some(Err(cut)) => format!("{cut} (cut)"),
     }
 }
 
@@ -369,7 +379,7 @@ pub fn misses(script: &Script, programs: &[Printed]) -> Vec<Miss> {
         let shares: Vec<&[&str]> = parted.iter().map(|shares| &shares[at][..]).collect();
         if let Some((wanted, got)) = missed(&step.want, &shares) {
             let (name, record) = (name.clone(), describe_record(&step.record));
-            let lines = got.iter().map(|line| line.unwrap_or("no line").to_string());
+            let lines = got.into_iter().map(shown);
             let got = programs.iter().map(|one| one.program).zip(lines).collect();
             misses.push(Miss { line: *line, name, record, wanted, got });
         }
@@ -474,6 +484,8 @@ mod tests {
         assert_eq!(found(good.clone()), []);
         assert_eq!(found(format!("{good}more\n")), [(2, "more".to_string())]);
         assert_eq!(found("t 1 0 0 -\n".to_string()), [(2, "no line".to_string())]);
+        let cut = [(2, "c 0 0 0 0 0 0 0 0 0 0 0 0 0 0 0 0 0 (cut)".to_string())];
+        assert_eq!(found(good.trim_end().to_string()), cut);
         let stopped = [(1, "? 5".to_string()), (2, "no line".to_string())];
         assert_eq!(found("? 5\n".to_string()), stopped);
     }
