@@ -34,7 +34,7 @@ fn steps(script: &[u8], fault: Fault) -> Vec<Step> {
 }
 
 /// The lines that a whole script prints.
-fn printed(script: &[u8], fault: Fault) -> Vec<u8> {
+pub fn printed(script: &[u8], fault: Fault) -> Vec<u8> {
     steps(script, fault).into_iter().flat_map(|step| step.lines).collect()
 }
 
@@ -114,7 +114,8 @@ fn describe(step: &Step) -> String {
     }
 }
 
-fn describe_record(record: &Record) -> String {
+/// A record in words.
+pub fn describe_record(record: &Record) -> String {
     let [b0, b1, b2, b3, b4] = record.b;
     let Record { a, clock, store, reply, .. } = record;
     let payload: String = record.payload.iter().map(|byte| format!("{byte:02X}")).collect();
@@ -135,7 +136,7 @@ fn describe_record(record: &Record) -> String {
 }
 
 /// Runs a program with a script on its standard input; gives what it prints.
-fn run_program(program: &Path, script: Vec<u8>) -> io::Result<Vec<u8>> {
+pub fn run_program(program: &Path, script: Vec<u8>) -> io::Result<Vec<u8>> {
     let mut command = Command::new(program);
     let spawned = command.stdin(Stdio::piped()).stdout(Stdio::piped()).spawn();
     let mut child = spawned.map_err(|error| named(program, error))?;

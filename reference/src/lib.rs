@@ -15,3 +15,5 @@ pub mod service;
 pub mod speed;
 pub mod state;
 pub mod store;
+pub mod table;
+pub mod vectors;

@@ -1,8 +1,8 @@
-//! Commands of the reference: play, generate, compare, faults, selftest-faults
-//! and speed.
+//! Commands of the reference: play, generate, compare, vectors, faults,
+//! selftest-faults and speed.
 
 use std::collections::HashMap;
-use std::fs::File;
+use std::fs::{self, File};
 use std::io::{self, BufReader, BufWriter, Write};
 use std::path::Path;
 use std::process::ExitCode;
@@ -13,12 +13,16 @@ use reference::fault::{Fault, FAULTS};
 use reference::generate::{scripts, Script};
 use reference::script::play;
 use reference::speed;
+use reference::table;
+use reference::vectors::{misses, Printed, Script as Table};
 
 const USAGE: &str = "\
 reference play                                          script on standard input, lines on standard output
 reference generate --seed N --calls M [--out FILE]      the list as one script
 reference compare --seed N --calls M --console PATH [--fault F] [--out FILE]
                                                         with the program at PATH; FILE gets a script that differs
+reference vectors --table FILE [--console PATH] [--out FILE]
+                                                        the table's cases; FILE gets their script
 reference faults                                        the faults that --fault plants
 reference selftest-faults --seed N --calls M            finds every fault, without another program
 reference speed --calls M [--console PATH]              times both on one script";
@@ -26,6 +30,9 @@ reference speed --calls M [--console PATH]              times both on one script
 /// Exit status for a difference, and for what cannot be done.
 const DIFFERENT: u8 = 1;
 const FAILED: u8 = 2;
+
+/// How many cases that differ are shown.
+const SHOWN: usize = 20;
 
 type Answer = Result<ExitCode, String>;
 
@@ -46,6 +53,7 @@ fn run(command: &str, options: &Options) -> Answer {
         "play" => play_standard_input(),
         "generate" => generate(options),
         "compare" => compare_with(options),
+        "vectors" => play_table(options),
         "faults" => list_faults(),
         "selftest-faults" => selftest_faults(options),
         "speed" => measure_speed(options),
@@ -126,6 +134,30 @@ fn compare_with(options: &Options) -> Answer {
             Ok(ExitCode::from(DIFFERENT))
         }
     }
+}
+
+fn play_table(options: &Options) -> Answer {
+    let file = options.text("table").ok_or("--table is missing")?;
+    let text = fs::read_to_string(file).map_err(|error| format!("{file}: {error}"))?;
+    let rows = table::read(&text).map_err(|error| format!("{file}, {error}"))?;
+    let table = Table::of(&rows);
+    if let Some(out) = options.text("out") {
+        write_file(out, &table.bytes())?;
+    }
+    let mut programs = vec![Printed::by_reference(&table)];
+    if let Some(console) = options.text("console") {
+        programs.push(Printed::by_console(&table, Path::new(console)).map_err(failed)?);
+    }
+    let misses = misses(&table, &programs);
+    let (cases, lines) = (table.cases(), programs[0].lines());
+    if misses.is_empty() {
+        let agree = if programs.len() == 2 { "agree" } else { "of the reference alone" };
+        println!("vectors: {cases} cases, {lines} lines {agree}");
+        return Ok(ExitCode::SUCCESS);
+    }
+    misses.iter().take(SHOWN).for_each(|miss| println!("{file}, {miss}"));
+    println!("vectors: {} of {cases} cases differ", misses.len());
+    Ok(ExitCode::from(DIFFERENT))
 }
 
 fn list_faults() -> Answer {

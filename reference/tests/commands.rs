@@ -1,0 +1,90 @@
+//! The command `vectors`: its status and what it prints.
+
+use std::fs;
+use std::path::PathBuf;
+use std::process::Command;
+
+const PROGRAM: &str = env!("CARGO_BIN_EXE_reference");
+
+const TABLE: &str = "\
+count:     m 44 02000101  > 0 51 0000ffbe
+its items: i 0 0 1 16 3   > 0 47 ffbe000001
+first:     d              > 1 fly 0
+";
+
+/// A file for one test, removed at its end.
+struct Scratch(PathBuf);
+
+impl Scratch {
+    fn new(name: &str, text: &str) -> Scratch {
+        let file = format!("reference-commands-{}-{name}", std::process::id());
+        let path = std::env::temp_dir().join(file);
+        fs::write(&path, text).unwrap();
+        Scratch(path)
+    }
+
+    fn name(&self) -> &str {
+        self.0.to_str().unwrap()
+    }
+}
+
+impl Drop for Scratch {
+    fn drop(&mut self) {
+        let _ = fs::remove_file(&self.0);
+    }
+}
+
+/// The status of a run, and what it prints.
+fn run(arguments: &[&str]) -> (Option<i32>, String, String) {
+    let output = Command::new(PROGRAM).args(arguments).output().unwrap();
+    let text = |bytes: Vec<u8>| String::from_utf8(bytes).unwrap();
+    (output.status.code(), text(output.stdout), text(output.stderr))
+}
+
+#[test]
+fn a_table_that_holds() {
+    let (table, script) = (Scratch::new("good", TABLE), Scratch::new("script", ""));
+    let (status, out, _) = run(&["vectors", "--table", table.name(), "--out", script.name()]);
+    assert_eq!(status, Some(0));
+    assert_eq!(out, "vectors: 3 cases, 14 lines of the reference alone\n");
+    let script = fs::File::open(&script.0).unwrap();
+    let played = Command::new(PROGRAM).arg("play").stdin(script).output().unwrap();
+    let lines = String::from_utf8(played.stdout).unwrap();
+    assert_eq!(lines.lines().count(), 14);
+    assert!(
+        lines.starts_with("m 0 51 4 0000FFBE\nm 0 51 4 0100FFBE\nm 0 47 5 FFBE000001\nd 1 fly 0\n")
+    );
+}
+
+#[test]
+fn a_table_that_does_not_hold() {
+    let table = Scratch::new("other", &TABLE.replace("fly 0", "fly 1"));
+    let (status, out, _) = run(&["vectors", "--table", table.name()]);
+    assert_eq!(status, Some(1));
+    let shown = "line 3: first\n  record:    DONE store 26752\n  wanted:    d 1 fly 1\n  reference: d 1 fly 0\n";
+    assert!(out.contains(shown), "{out}");
+    assert!(out.ends_with("vectors: 1 of 3 cases differ\n"), "{out}");
+}
+
+/// Without arguments the program prints no line.
+#[test]
+fn a_console_that_prints_nothing() {
+    let table = Scratch::new("silent", TABLE);
+    let (status, out, _) = run(&["vectors", "--table", table.name(), "--console", PROGRAM]);
+    assert_eq!(status, Some(1));
+    assert!(out.contains("line 1: count\n"), "{out}");
+    assert!(out.contains("  reference: m 0 51 4 0000FFBE\n  console:   no line\n"), "{out}");
+    assert!(out.ends_with("vectors: 3 of 3 cases differ\n"), "{out}");
+}
+
+#[test]
+fn what_cannot_be_played() {
+    let table = Scratch::new("unread", &TABLE.replace("0 51 ", "0 51 0"));
+    let (status, out, error) = run(&["vectors", "--table", table.name()]);
+    assert_eq!((status, out.as_str()), (Some(2), ""));
+    assert!(error.contains("line 1: 00000ffbe: not at most 64 bytes in hex"), "{error}");
+    let good = Scratch::new("good-too", TABLE);
+    let arguments = ["vectors", "--table", good.name(), "--console", "no such program"];
+    assert_eq!(run(&arguments).0, Some(2));
+    assert_eq!(run(&["vectors", "--table", "no such table"]).0, Some(2));
+}
