@@ -1,6 +1,6 @@
 -- The lines of a call script. "Every line ends in LF. Fields are parted by one space. Numbers are decimal without leading zeros, except
 -- where hex is named. Hex is upper case, two digits a byte, no spaces."
-use Prim.Native.Nat.{ℕ}
+use Prim.Native.Nat.{ℕ, _/_, _%_}
 use mathlib.Core.Bool.{Bool, true, false, _&&_, cond}
 use mathlib.Core.List.{List, [], _∷_, _++_}
 use lib.Dec.{eqb}
@@ -8,6 +8,8 @@ use lib.Ieee.{Float, binary32, toBits}
 use lib.ListN.{take, drop}
 use Rattle.text.specs.Words.{ascii}
 use Rattle.text.specs.Digits.{spaced, hex}
+use Rattle.script.specs.declared.Next.{Next}
+use Rattle.script.specs.declared.Next.the-variants.{Play, End, Cut, Bad}
 use Rattle.next_command.specs.declared.Command.{Command}
 use Rattle.next_command.specs.declared.Command.the-variants.{Fly, Wait, Near, Turn, Speed, Servo, Finished, Stuck}
 
@@ -33,3 +35,44 @@ markedEnd false = ascii " B\n"
 unfoldable pub servedLine : (letter outcome id len : ℕ) (reply : List ℕ) → List ℕ
 servedLine letter outcome id len reply =
     begun letter (outcome ∷ id ∷ len ∷ []) ++ ((32 ∷ replyText len reply) ++ markedEnd (untouched (drop len reply)))
+
+-- "8 hex digits, the bit pattern .., highest first". Every NaN is shown as the quiet one without a sign.
+abbrev pub highFirst : ℕ → List ℕ
+highFirst n = n / 16777216 ∷ n / 65536 % 256 ∷ n / 256 % 256 ∷ n % 256 ∷ []
+
+abbrev pub patternText : Float → List ℕ
+patternText x = hex (highFirst (toBits binary32 x))
+
+-- a word and numbers; a word, an item's number and a value
+abbrev pub numbered : (word ns : List ℕ) → List ℕ
+numbered word ns = word ++ spaced ns
+
+abbrev pub valued : (word : List ℕ) (n : ℕ) (x : Float) → List ℕ
+valued word n x = numbered word (n ∷ []) ++ (32 ∷ patternText x)
+
+-- "ANSWER is one of .."
+unfoldable pub commandText : Command → List ℕ
+commandText (Fly n) = numbered (ascii " fly") (n ∷ [])
+commandText (Wait n x) = valued (ascii " wait") n x
+commandText (Near n x) = valued (ascii " near") n x
+commandText (Turn n x) = valued (ascii " turn") n x
+commandText (Speed n x) = valued (ascii " speed") n x
+commandText (Servo n channel pulse) = numbered (ascii " servo") (n ∷ channel ∷ pulse ∷ [])
+commandText Finished = ascii " finished"
+commandText Stuck = ascii " stuck"
+
+-- "`d OUTCOME ANSWER` for a done call"
+unfoldable pub doneLine : (outcome : ℕ) → Command → List ℕ
+doneLine outcome command = begun 100 (outcome ∷ []) ++ (commandText command ++ ascii "\n")
+
+-- "compares the store array with the copy .. `s 1` if equal, else `s 0`"
+unfoldable pub sameLine : Bool → List ℕ
+sameLine true = ascii "s 1\n"
+sameLine false = ascii "s 0\n"
+
+-- "the line `? TYPE`, and the program stops. A record cut by the end of input: `? cut`."
+unfoldable pub stopText : Next → List ℕ
+stopText (Play r) = []
+stopText End = []
+stopText Cut = ascii "? cut\n"
+stopText (Bad kind) = begun 63 (kind ∷ []) ++ ascii "\n"

@@ -1,41 +1,50 @@
+-- `lines::untouched` meets its contract. The loop's invariant: the bytes passed are what they were.
+use Prim.Native.Nat.{_-_}
+use mathlib.Core.Path.{_≡_, refl, _∙_}
+use native.Mathlib.Omega.{arith}
+use lib.ListN.{length, drop}
+use denote.Ref.{now}
+use borrow.Author.Needs.{needs}
+use Rattle.lines.specs.Lines.{untouched}
+use Rattle.lines.proofs.Ways.{untouched-more, touched, untouched-all}
 use Rattle.lines.proofs.untouched.Statement.{statement}
 use Rattle.lines.proofs.untouched.Tie as tie
-use Rattle.lines.proofs.untouched.Reads as reads
-use Rattle.lines.proofs.untouched.Lts as lts
 
 abbrev Inv-loop : tie.InvT-loop
-Inv-loop reply len i₀ i = ?
+Inv-loop reply len i₀ i = untouched (drop i reply) ≡ untouched (drop len reply)
 
 abbrev μ-loop : tie.MeasureT-loop
-μ-loop reply len i₀ i = ?
+μ-loop reply len i₀ i = length reply - i
 
--- src/lib.rt:34:5
 loop-holds : tie.Need-loop-holds Inv-loop μ-loop
-loop-holds c = ?
+loop-holds c = refl
 
--- src/lib.rt:35:12
 shared-slice-read-if1 : tie.Need-shared-slice-read-if1 Inv-loop μ-loop
-shared-slice-read-if1 c = ?
+shared-slice-read-if1 c = search needs
 
--- src/lib.rt:36:13
 returns : tie.Need-returns Inv-loop μ-loop
-returns c = ?
+returns c =
+    let l = c .before .before .before in
+    let reply = now (l .before .args .reply) in
+    touched reply (l .loop .i) (omega arith) (c .if1 .taken) ∙ l .loop .inv
 
--- src/lib.rt:38:9
 add-i : tie.Need-add-i Inv-loop μ-loop
-add-i c = ?
+add-i c = search needs
 
--- src/lib.rt:34:5
 loop-less : tie.Need-loop-less Inv-loop μ-loop
-loop-less c = ?
+loop-less c = search needs
 
--- src/lib.rt:34:5
 loop-again : tie.Need-loop-again Inv-loop μ-loop
-loop-again c = ?
+loop-again c =
+    let l = c .before .before .before in
+    let reply = now (l .before .args .reply) in
+    untouched-more reply (l .loop .i) (omega arith) (c .if1 .left) ∙ l .loop .inv
 
--- src/lib.rt:30:1
 returns-2 : tie.Need-returns-2 Inv-loop μ-loop
-returns-2 c = ?
+returns-2 c =
+    let l = c .before in
+    let reply = now (l .before .args .reply) in
+    untouched-all reply (l .loop .i) (omega arith) ∙ l .loop .inv
 
 pub untouched-spec : {M : Type 1} → statement M
 untouched-spec =

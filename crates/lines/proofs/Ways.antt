@@ -1,0 +1,114 @@
+-- The lines, for each way that the tests can go.
+use Prim.Native.Nat.{ℕ, _+_, _*_, _<_, _≤_}
+use mathlib.Core.Path.{_≡_, refl, sym, subst, _∙_}
+use mathlib.Core.Bool.{Bool, true, false, true≢false, not, Bool·beq}
+use mathlib.Core.List.{List, [], _∷_, _++_}
+use native.Mathlib.Numerals.{add-one}
+use lib.Dec.{T}
+use lib.Ieee.{Float, nan, inf, fin, up, down, eq, isNan, binary32, toBits}
+use lib.ListN.{length, getD, take, drop, drop-of-length-le}
+use lib.Seq.{drop-cons}
+use borrow.Author.Tests.{eq-eqb, ne-eqb}
+use Rattle.text.specs.Added.{Adds}
+use Rattle.text.specs.Digits.{hex}
+use Rattle.text.specs.Laws.{adds-both, adds-after}
+use Rattle.script.specs.declared.Next.{Next}
+use Rattle.next_command.specs.declared.Command.{Command}
+use Rattle.lines.specs.Lines.{begun, replyText, untouched, markedEnd, servedLine, highFirst, patternText, numbered, valued, commandText, doneLine, sameLine, stopText}
+
+-- the bytes past a reply
+
+module _ (l : List ℕ) (i : ℕ) where
+  pub untouched-more : i < length l → getD l i 0 ≡ 165 → untouched (drop (i + 1) l) ≡ untouched (drop i l)
+  unfolding untouched
+  untouched-more h e = rw (add-one, drop-cons l i 0 h, eq-eqb (getD l i 0) 165 e)
+
+  pub touched : i < length l → (getD l i 0 ≡ 165 → ⊥) → false ≡ untouched (drop i l)
+  unfolding untouched
+  touched h e = rw (drop-cons l i 0 h, ne-eqb (getD l i 0) 165 e)
+
+  pub untouched-all : length l ≤ i → true ≡ untouched (drop i l)
+  unfolding untouched
+  untouched-all h = rw (drop-of-length-le l h)
+
+-- the parts of a line
+
+module _ (before between after : List ℕ) (at n r : ℕ) where
+  pub no-reply : (len : ℕ) (reply : List ℕ) → len ≡ 0 → Adds (32 ∷ []) before at between n → Adds (45 ∷ []) between n after r → Adds (32 ∷ replyText len reply) before at after r
+  unfolding replyText
+  no-reply len reply e space dash = rw (eq-eqb len 0 e) (adds-after 32 (45 ∷ []) space dash)
+
+  pub some-reply : (len : ℕ) (reply part : List ℕ) → (len ≡ 0 → ⊥) → part ≡ take len reply → Adds (32 ∷ []) before at between n → Adds (hex part) between n after r → Adds (32 ∷ replyText len reply) before at after r
+  unfolding replyText
+  some-reply len reply part e is space text = rw (ne-eqb len 0 e, ← is) (adds-after 32 (hex part) space text)
+
+module _ (before after : List ℕ) (at r : ℕ) (clean : Bool) where
+  pub clean-end : clean ≡ true → Adds (10 ∷ []) before at after r → Adds (markedEnd clean) before at after r
+  unfolding markedEnd
+  clean-end e adds = rw e adds
+
+  pub marked-end : clean ≡ false → Adds (32 ∷ 66 ∷ 10 ∷ []) before at after r → Adds (markedEnd clean) before at after r
+  unfolding markedEnd
+  marked-end e adds = rw e adds
+
+pub served-line
+    : (letter outcome id len : ℕ) (reply before between third after : List ℕ) (at n m r : ℕ) (clean : Bool)
+    → clean ≡ untouched (drop len reply)
+    → Adds (begun letter (outcome ∷ id ∷ len ∷ [])) before at between n
+    → Adds (32 ∷ replyText len reply) between n third m
+    → Adds (markedEnd clean) third m after r
+    → Adds (servedLine letter outcome id len reply) before at after r
+unfolding servedLine
+served-line letter outcome id len reply before between third after at n m r clean is first second last = rw (← is) (adds-both first (adds-both second last))
+
+-- values
+
+pub no-nan : (x : Float) → eq x x ≡ true → T (not (isNan x))
+unfolding eq isNan
+no-nan nan h = subst T (sym h) tt
+no-nan (inf s) h = tt
+no-nan (fin s m e) h = tt
+
+signs-same : (s : Bool) → Bool·beq s s ≡ true
+signs-same true = refl
+signs-same false = refl
+
+pub nan-bits : (x : Float) → eq x x ≡ false → 2143289344 ≡ toBits binary32 x
+unfolding eq toBits
+nan-bits nan h = refl
+nan-bits (inf s) h = absurd (true≢false (sym (signs-same s) ∙ h))
+nan-bits (fin s m e) h =
+    let n = m * up e * down e in
+    absurd (true≢false (sym (rw (eq-eqb n n refl, signs-same s)) ∙ h))
+
+pub pattern-text : (x : Float) (n : ℕ) (before after : List ℕ) (at r : ℕ) → n ≡ toBits binary32 x → Adds (hex (highFirst n)) before at after r → Adds (patternText x) before at after r
+pattern-text x n before after at r e adds = rw (← e) adds
+
+-- what is told of a command, and of what stands next
+
+pub valued-text
+    : (word : List ℕ) (n : ℕ) (x : Float) (before between third after : List ℕ) (at k m r : ℕ)
+    → Adds (numbered word (n ∷ [])) before at between k
+    → Adds (32 ∷ []) between k third m
+    → Adds (patternText x) third m after r
+    → Adds (valued word n x) before at after r
+valued-text word n x before between third after at k m r first space last = adds-both first (adds-after 32 (patternText x) space last)
+
+pub done-line
+    : (outcome : ℕ) (command : Command) (before between third after : List ℕ) (at n m r : ℕ)
+    → Adds (begun 100 (outcome ∷ [])) before at between n
+    → Adds (commandText command) between n third m
+    → Adds (10 ∷ []) third m after r
+    → Adds (doneLine outcome command) before at after r
+unfolding doneLine
+done-line outcome command before between third after at n m r first second last = adds-both first (adds-both second last)
+
+module _ (before after : List ℕ) (at r : ℕ) where
+  pub as-command : (command is : Command) → command ≡ is → Adds (commandText is) before at after r → Adds (commandText command) before at after r
+  as-command command is e adds = rw e adds
+
+  pub as-next : (next is : Next) → next ≡ is → Adds (stopText is) before at after r → Adds (stopText next) before at after r
+  as-next next is e adds = rw e adds
+
+  pub as-same : (same is : Bool) → same ≡ is → Adds (sameLine is) before at after r → Adds (sameLine same) before at after r
+  as-same same is e adds = rw e adds
