@@ -10,11 +10,12 @@ use lib.ListN.{length, getD, take, drop, drop-of-length-le}
 use lib.Seq.{drop-cons}
 use borrow.Author.Tests.{eq-eqb, ne-eqb}
 use Rattle.text.specs.Added.{Adds}
-use Rattle.text.specs.Digits.{hex}
+use Rattle.text.specs.Digits.{spaced, hex}
 use Rattle.text.specs.Laws.{adds-both, adds-after}
 use Rattle.script.specs.declared.Next.{Next}
 use Rattle.next_command.specs.declared.Command.{Command}
-use Rattle.lines.specs.Lines.{begun, replyText, untouched, markedEnd, servedLine, highFirst, patternText, numbered, valued, commandText, doneLine, sameLine, stopText}
+use Rattle.lines.specs.declared.Answer.{Answer}
+use Rattle.lines.specs.Lines.{begun, replyText, untouched, markedEnd, servedLine, highFirst, valueText, commandText, answerText, doneLine, stopText}
 
 -- the bytes past a reply
 
@@ -81,34 +82,39 @@ nan-bits (fin s m e) h =
     let n = m * up e * down e in
     absurd (true≢false (sym (rw (eq-eqb n n refl, signs-same s)) ∙ h))
 
-pub pattern-text : (x : Float) (n : ℕ) (before after : List ℕ) (at r : ℕ) → n ≡ toBits binary32 x → Adds (hex (highFirst n)) before at after r → Adds (patternText x) before at after r
-pattern-text x n before after at r e adds = rw (← e) adds
+pub value-text
+    : (x : Float) (n : ℕ) (before between after : List ℕ) (at k r : ℕ)
+    → n ≡ toBits binary32 x
+    → Adds (32 ∷ []) before at between k
+    → Adds (hex (highFirst n)) between k after r
+    → Adds (valueText x) before at after r
+value-text x n before between after at k r e space digits = rw (← e) (adds-after 32 (hex (highFirst n)) space digits)
 
 -- what is told of a command, and of what stands next
 
-pub valued-text
-    : (word : List ℕ) (n : ℕ) (x : Float) (before between third after : List ℕ) (at k m r : ℕ)
-    → Adds (numbered word (n ∷ [])) before at between k
-    → Adds (32 ∷ []) between k third m
-    → Adds (patternText x) third m after r
-    → Adds (valued word n x) before at after r
-valued-text word n x before between third after at k m r first space last = adds-both first (adds-after 32 (patternText x) space last)
+pub is-answer : (command is : Command) (t : Answer) → command ≡ is → answerText t ≡ commandText is → answerText t ≡ commandText command
+is-answer command is t e same = rw e same
+
+module _ (t : Answer) (w ns before between third after : List ℕ) (at k m r : ℕ) (front : w ≡ take (t .letters) (t .word)) (first : ns ≡ take (t .numbers) (t .list))
+    (word : Adds w before at between k) (list : Adds (spaced ns) between k third m)
+  where
+    pub answer-value : t .valued ≡ true → Adds (valueText (t .value)) third m after r → Adds (answerText t) before at after r
+    unfolding answerText
+    answer-value e value = rw (e, ← front, ← first) (adds-both word (adds-both list value))
+
+    pub answer-none : t .valued ≡ false → Adds [] third m after r → Adds (answerText t) before at after r
+    unfolding answerText
+    answer-none e none = rw (e, ← front, ← first) (adds-both word (adds-both list none))
 
 pub done-line
-    : (outcome : ℕ) (command : Command) (before between third after : List ℕ) (at n m r : ℕ)
+    : (outcome : ℕ) (command : Command) (t : Answer) (before between third after : List ℕ) (at n m r : ℕ)
+    → answerText t ≡ commandText command
     → Adds (begun 100 (outcome ∷ [])) before at between n
-    → Adds (commandText command) between n third m
+    → Adds (answerText t) between n third m
     → Adds (10 ∷ []) third m after r
     → Adds (doneLine outcome command) before at after r
 unfolding doneLine
-done-line outcome command before between third after at n m r first second last = adds-both first (adds-both second last)
+done-line outcome command t before between third after at n m r e first second last = rw (← e) (adds-both first (adds-both second last))
 
-module _ (before after : List ℕ) (at r : ℕ) where
-  pub as-command : (command is : Command) → command ≡ is → Adds (commandText is) before at after r → Adds (commandText command) before at after r
-  as-command command is e adds = rw e adds
-
-  pub as-next : (next is : Next) → next ≡ is → Adds (stopText is) before at after r → Adds (stopText next) before at after r
-  as-next next is e adds = rw e adds
-
-  pub as-same : (same is : Bool) → same ≡ is → Adds (sameLine is) before at after r → Adds (sameLine same) before at after r
-  as-same same is e adds = rw e adds
+pub as-next : (before after : List ℕ) (at r : ℕ) (next is : Next) → next ≡ is → Adds (stopText is) before at after r → Adds (stopText next) before at after r
+as-next before after at r next is e adds = rw e adds

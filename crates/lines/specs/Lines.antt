@@ -10,6 +10,7 @@ use Rattle.text.specs.Words.{ascii}
 use Rattle.text.specs.Digits.{spaced, hex}
 use Rattle.script.specs.declared.Next.{Next}
 use Rattle.script.specs.declared.Next.the-variants.{Play, End, Cut, Bad}
+use Rattle.lines.specs.declared.Answer.{Answer}
 use Rattle.next_command.specs.declared.Command.{Command}
 use Rattle.next_command.specs.declared.Command.the-variants.{Fly, Wait, Near, Turn, Speed, Servo, Finished, Stuck}
 
@@ -36,43 +37,39 @@ unfoldable pub servedLine : (letter outcome id len : ℕ) (reply : List ℕ) →
 servedLine letter outcome id len reply =
     begun letter (outcome ∷ id ∷ len ∷ []) ++ ((32 ∷ replyText len reply) ++ markedEnd (untouched (drop len reply)))
 
--- "8 hex digits, the bit pattern .., highest first". Every NaN is shown as the quiet one without a sign.
+-- a value after a space: "8 hex digits, the bit pattern .., highest first". Every NaN is shown as the quiet one without a sign.
 abbrev pub highFirst : ℕ → List ℕ
 highFirst n = n / 16777216 ∷ n / 65536 % 256 ∷ n / 256 % 256 ∷ n % 256 ∷ []
 
-abbrev pub patternText : Float → List ℕ
-patternText x = hex (highFirst (toBits binary32 x))
-
--- a word and numbers; a word, an item's number and a value
-abbrev pub numbered : (word ns : List ℕ) → List ℕ
-numbered word ns = word ++ spaced ns
-
-abbrev pub valued : (word : List ℕ) (n : ℕ) (x : Float) → List ℕ
-valued word n x = numbered word (n ∷ []) ++ (32 ∷ patternText x)
+abbrev pub valueText : Float → List ℕ
+valueText x = 32 ∷ hex (highFirst (toBits binary32 x))
 
 -- "ANSWER is one of .."
 unfoldable pub commandText : Command → List ℕ
-commandText (Fly n) = numbered (ascii " fly") (n ∷ [])
-commandText (Wait n x) = valued (ascii " wait") n x
-commandText (Near n x) = valued (ascii " near") n x
-commandText (Turn n x) = valued (ascii " turn") n x
-commandText (Speed n x) = valued (ascii " speed") n x
-commandText (Servo n channel pulse) = numbered (ascii " servo") (n ∷ channel ∷ pulse ∷ [])
+commandText (Fly n) = ascii " fly" ++ spaced (n ∷ [])
+commandText (Wait n x) = ascii " wait" ++ (spaced (n ∷ []) ++ valueText x)
+commandText (Near n x) = ascii " near" ++ (spaced (n ∷ []) ++ valueText x)
+commandText (Turn n x) = ascii " turn" ++ (spaced (n ∷ []) ++ valueText x)
+commandText (Speed n x) = ascii " speed" ++ (spaced (n ∷ []) ++ valueText x)
+commandText (Servo n channel pulse) = ascii " servo" ++ spaced (n ∷ channel ∷ pulse ∷ [])
 commandText Finished = ascii " finished"
 commandText Stuck = ascii " stuck"
+
+-- the same as the code holds it
+unfoldable pub answerText : Answer → List ℕ
+answerText t = take (t .letters) (t .word) ++ (spaced (take (t .numbers) (t .list)) ++ cond (t .valued) (valueText (t .value)) [])
 
 -- "`d OUTCOME ANSWER` for a done call"
 unfoldable pub doneLine : (outcome : ℕ) → Command → List ℕ
 doneLine outcome command = begun 100 (outcome ∷ []) ++ (commandText command ++ ascii "\n")
 
--- "compares the store array with the copy .. `s 1` if equal, else `s 0`"
-unfoldable pub sameLine : Bool → List ℕ
-sameLine true = ascii "s 1\n"
-sameLine false = ascii "s 0\n"
+-- a letter and numbers as a line
+abbrev pub row : (letter : ℕ) (ns : List ℕ) → List ℕ
+row letter ns = begun letter ns ++ ascii "\n"
 
 -- "the line `? TYPE`, and the program stops. A record cut by the end of input: `? cut`."
 unfoldable pub stopText : Next → List ℕ
 stopText (Play r) = []
 stopText End = []
 stopText Cut = ascii "? cut\n"
-stopText (Bad kind) = begun 63 (kind ∷ []) ++ ascii "\n"
+stopText (Bad kind) = row 63 (kind ∷ [])

@@ -1,10 +1,11 @@
 // The lines that a call script's records print, each put behind the text so far.
 ghost use mathlib.Core.Path.{_≡_};
-ghost use mathlib.Core.List.{_∷_};
+ghost use mathlib.Core.List.{[], _∷_, _++_};
 ghost use lib.Ieee.{binary32, toBits};
-ghost use lib.ListN.{drop};
+ghost use lib.ListN.{take, drop};
 ghost use Rattle.text.specs.Added.{Adds};
-ghost use Rattle.lines.specs.Lines.{begun, replyText, untouched as Lines·untouched, markedEnd, servedLine, patternText, numbered, valued, commandText, doneLine, sameLine, stopText};
+ghost use Rattle.text.specs.Digits.{spaced};
+ghost use Rattle.lines.specs.Lines.{begun, replyText, untouched as Lines·untouched, markedEnd, servedLine, valueText, answerText, commandText, doneLine, row, stopText};
 use next_command::Command;
 use script::Next;
 
@@ -80,8 +81,9 @@ fn bits(x: f32) -> u32
     0x7fc0_0000
 }
 
-fn put_pattern(out: &mut [u8], at: usize, x: f32) -> usize
-    ensures { λ r. ⌜ Adds (patternText x) (now (out .entry)) at (now (out .exit)) r ⌝ }
+// A value after a space.
+fn put_value(out: &mut [u8], at: usize, x: f32) -> usize
+    ensures { λ r. ⌜ Adds (valueText x) (now (out .entry)) at (now (out .exit)) r ⌝ }
 {
     let n = bits(x);
     let bytes = [
@@ -90,52 +92,79 @@ fn put_pattern(out: &mut [u8], at: usize, x: f32) -> usize
         (n / 256 % 256) as u8,
         (n % 256) as u8,
     ];
-    text::put_hex(out, at, &bytes)
+    let end = text::put_byte(out, at, b' ');
+    text::put_hex(out, end, &bytes)
 }
 
-fn put_numbered(out: &mut [u8], at: usize, word: &[u8], list: &[u64]) -> usize
-    ensures { λ r. ⌜ Adds (numbered (now (word .entry)) (now (list .entry))) (now (out .entry)) at (now (out .exit)) r ⌝ }
+// What is told of a command: the first letters of a word, the first numbers of a list, and a value or none.
+struct Answer {
+    word: [u8; 9],
+    letters: usize,
+    list: [u64; 3],
+    numbers: usize,
+    valued: bool,
+    value: f32,
+}
+
+fn with_value(word: [u8; 9], letters: usize, n: u16, value: f32) -> Answer
+    ensures { λ r. ⌜ answerText r ≡ take letters word ++ (spaced (n ∷ []) ++ valueText value) ⌝ }
 {
-    let end = text::put(out, at, word);
-    text::put_numbers(out, end, list)
+    Answer {
+        word,
+        letters,
+        list: [n as u64, 0, 0],
+        numbers: 1,
+        valued: true,
+        value,
+    }
 }
 
-fn put_valued(out: &mut [u8], at: usize, word: &[u8], n: u16, x: f32) -> usize
-    ensures { λ r. ⌜ Adds (valued (now (word .entry)) n x) (now (out .entry)) at (now (out .exit)) r ⌝ }
+fn with_numbers(word: [u8; 9], letters: usize, list: [u64; 3], numbers: usize) -> Answer
+    ensures { λ r. ⌜ answerText r ≡ take letters word ++ spaced (take numbers list) ⌝ }
 {
-    let list = [n as u64];
-    let end = put_numbered(out, at, word, &list);
-    let end = text::put_byte(out, end, b' ');
-    put_pattern(out, end, x)
+    Answer {
+        word,
+        letters,
+        list,
+        numbers,
+        valued: false,
+        value: 0.0,
+    }
 }
 
-fn put_servo(out: &mut [u8], at: usize, n: u16, channel: u16, pulse: u16) -> usize
-    ensures { λ r. ⌜ Adds (commandText (Command.Servo n channel pulse)) (now (out .entry)) at (now (out .exit)) r ⌝ }
-{
-    let list = [n as u64, channel as u64, pulse as u64];
-    put_numbered(out, at, b" servo", &list)
-}
-
-fn put_fly(out: &mut [u8], at: usize, n: u16) -> usize
-    ensures { λ r. ⌜ Adds (commandText (Command.Fly n)) (now (out .entry)) at (now (out .exit)) r ⌝ }
-{
-    let list = [n as u64];
-    put_numbered(out, at, b" fly", &list)
-}
-
-fn put_command(out: &mut [u8], at: usize, command: Command) -> usize
-    ensures { λ r. ⌜ Adds (commandText command) (now (out .entry)) at (now (out .exit)) r ⌝ }
+fn answer_of(command: Command) -> Answer
+    ensures { λ r. ⌜ answerText r ≡ commandText command ⌝ }
 {
     match command {
-        Command::Fly(n) => put_fly(out, at, n),
-        Command::Wait(n, x) => put_valued(out, at, b" wait", n, x),
-        Command::Near(n, x) => put_valued(out, at, b" near", n, x),
-        Command::Turn(n, x) => put_valued(out, at, b" turn", n, x),
-        Command::Speed(n, x) => put_valued(out, at, b" speed", n, x),
-        Command::Servo(n, channel, pulse) => put_servo(out, at, n, channel, pulse),
-        Command::Finished => text::put(out, at, b" finished"),
-        Command::Stuck => text::put(out, at, b" stuck"),
+        Command::Fly(n) => with_numbers(*b" fly     ", 4, [n as u64, 0, 0], 1),
+        Command::Wait(n, x) => with_value(*b" wait    ", 5, n, x),
+        Command::Near(n, x) => with_value(*b" near    ", 5, n, x),
+        Command::Turn(n, x) => with_value(*b" turn    ", 5, n, x),
+        Command::Speed(n, x) => with_value(*b" speed   ", 6, n, x),
+        Command::Servo(n, channel, pulse) => {
+            with_numbers(
+                *b" servo   ",
+                6,
+                [n as u64, channel as u64, pulse as u64],
+                3,
+            )
+        }
+        Command::Finished => with_numbers(*b" finished", 9, [0; 3], 0),
+        Command::Stuck => with_numbers(*b" stuck   ", 6, [0; 3], 0),
     }
+}
+
+fn put_answer(out: &mut [u8], at: usize, t: Answer) -> usize
+    ensures { λ r. ⌜ Adds (answerText t) (now (out .entry)) at (now (out .exit)) r ⌝ }
+{
+    let word = t.word;
+    let end = text::put(out, at, text::front(&word, t.letters));
+    let list = t.list;
+    let end = text::put_numbers(out, end, text::first(&list, t.numbers));
+    if t.valued {
+        return put_value(out, end, t.value);
+    }
+    text::put(out, end, b"")
 }
 
 // What a "command done" call answered.
@@ -144,25 +173,15 @@ pub fn put_done(out: &mut [u8], at: usize, outcome: u8, command: Command) -> usi
 {
     let list = [outcome as u64];
     let end = put_begun(out, at, b'd', &list);
-    let end = put_command(out, end, command);
+    let end = put_answer(out, end, answer_of(command));
     text::put_byte(out, end, b'\n')
 }
 
-// Whether the store array is its copy.
-pub fn put_same(out: &mut [u8], at: usize, same: bool) -> usize
-    ensures { λ r. ⌜ Adds (sameLine same) (now (out .entry)) at (now (out .exit)) r ⌝ }
+// A letter and numbers as a line.
+pub fn put_row(out: &mut [u8], at: usize, letter: u8, list: &[u64]) -> usize
+    ensures { λ r. ⌜ Adds (row letter (now (list .entry))) (now (out .entry)) at (now (out .exit)) r ⌝ }
 {
-    if same {
-        return text::put(out, at, b"s 1\n");
-    }
-    text::put(out, at, b"s 0\n")
-}
-
-fn put_bad(out: &mut [u8], at: usize, kind: u8) -> usize
-    ensures { λ r. ⌜ Adds (stopText (Next.Bad kind)) (now (out .entry)) at (now (out .exit)) r ⌝ }
-{
-    let list = [kind as u64];
-    let end = put_begun(out, at, b'?', &list);
+    let end = put_begun(out, at, letter, list);
     text::put_byte(out, end, b'\n')
 }
 
@@ -171,9 +190,9 @@ pub fn put_stop(out: &mut [u8], at: usize, next: Next) -> usize
     ensures { λ r. ⌜ Adds (stopText next) (now (out .entry)) at (now (out .exit)) r ⌝ }
 {
     match next {
-        Next::Play(_) => text::put(out, at, b""),
-        Next::End => text::put(out, at, b""),
         Next::Cut => text::put(out, at, b"? cut\n"),
-        Next::Bad(kind) => put_bad(out, at, kind),
+        Next::Bad(kind) => put_row(out, at, b'?', &[kind as u64]),
+        Next::End => text::put(out, at, b""),
+        Next::Play(_) => text::put(out, at, b""),
     }
 }

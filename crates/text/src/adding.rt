@@ -25,6 +25,16 @@ pub fn front(bytes: &[u8], n: usize) -> &[u8]
     bytes
 }
 
+// The first numbers of a list, or all where there are fewer.
+pub fn first(list: &[u64], n: usize) -> &[u64]
+    ensures { λ r. ⌜ now r ≡ take n (now (list .entry)) ⌝ }
+{
+    if n < list.len() {
+        return &list[..n];
+    }
+    list
+}
+
 pub fn put_byte(out: &mut [u8], at: usize, byte: u8) -> usize
     ensures { λ r. ⌜ Adds (byte ∷ []) (now (out .entry)) at (now (out .exit)) r ⌝ }
 {

@@ -4,6 +4,7 @@ mod adding;
 mod reading;
 mod sending;
 
+pub use adding::first;
 pub use adding::front;
 pub use adding::put;
 pub use adding::put_byte;

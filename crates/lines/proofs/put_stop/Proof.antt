@@ -14,6 +14,18 @@ slice-aggregate-put c = search needs
 put-requires : tie.Need-put-requires
 put-requires c κs = search needs
 
+enum-known-next : tie.Need-enum-known-next
+enum-known-next c = search needs
+
+cast-t16 : tie.Need-cast-t16
+cast-t16 c = search needs
+
+slice-aggregate-put-row : tie.Need-slice-aggregate-put-row
+slice-aggregate-put-row c = search needs
+
+put-row-requires : tie.Need-put-row-requires
+put-row-requires c κs = search needs
+
 enum-told-2 : tie.Need-enum-told-2
 enum-told-2 c = search needs
 
@@ -31,12 +43,6 @@ slice-aggregate-put-3 c = search needs
 
 put-requires-3 : tie.Need-put-requires-3
 put-requires-3 c κs = search needs
-
-enum-known-next : tie.Need-enum-known-next
-enum-known-next c = search needs
-
-put-bad-requires : tie.Need-put-bad-requires
-put-bad-requires c κs = search needs
 
 same-length : tie.Need-same-length
 same-length c = search needs
@@ -73,14 +79,16 @@ put-stop-spec =
     enum-told
     slice-aggregate-put
     put-requires
+    enum-known-next
+    cast-t16
+    slice-aggregate-put-row
+    put-row-requires
     enum-told-2
     slice-aggregate-put-2
     put-requires-2
     enum-told-3
     slice-aggregate-put-3
     put-requires-3
-    enum-known-next
-    put-bad-requires
     same-length
     returns
     same-length-2

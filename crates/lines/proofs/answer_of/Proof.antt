@@ -1,0 +1,132 @@
+-- `lines::answer_of` meets its contract, for each command.
+use Rattle.lines.proofs.Ways.{is-answer}
+use Rattle.lines.specs.Lines.{commandText}
+use Rattle.text.specs.Digits.{each}
+use borrow.Author.Needs.{needs}
+use Rattle.lines.proofs.answer_of.Statement.{statement}
+use Rattle.lines.proofs.answer_of.Tie as tie
+
+enum-known-command : tie.Need-enum-known-command
+enum-known-command c = search needs
+
+cast-t25 : tie.Need-cast-t25
+cast-t25 c = search needs
+
+with-numbers-requires : tie.Need-with-numbers-requires
+with-numbers-requires c κs = search needs
+
+enum-known-command-2 : tie.Need-enum-known-command-2
+enum-known-command-2 c = search needs
+
+with-value-requires : tie.Need-with-value-requires
+with-value-requires c κs = search needs
+
+enum-known-command-3 : tie.Need-enum-known-command-3
+enum-known-command-3 c = search needs
+
+with-value-requires-2 : tie.Need-with-value-requires-2
+with-value-requires-2 c κs = search needs
+
+enum-known-command-4 : tie.Need-enum-known-command-4
+enum-known-command-4 c = search needs
+
+with-value-requires-3 : tie.Need-with-value-requires-3
+with-value-requires-3 c κs = search needs
+
+enum-known-command-5 : tie.Need-enum-known-command-5
+enum-known-command-5 c = search needs
+
+with-value-requires-4 : tie.Need-with-value-requires-4
+with-value-requires-4 c κs = search needs
+
+enum-known-command-6 : tie.Need-enum-known-command-6
+enum-known-command-6 c = search needs
+
+cast-t37 : tie.Need-cast-t37
+cast-t37 c = search needs
+
+cast-t38 : tie.Need-cast-t38
+cast-t38 c = search needs
+
+cast-t39 : tie.Need-cast-t39
+cast-t39 c = search needs
+
+with-numbers-requires-2 : tie.Need-with-numbers-requires-2
+with-numbers-requires-2 c κs = search needs
+
+enum-told : tie.Need-enum-told
+enum-told c = search needs
+
+with-numbers-requires-3 : tie.Need-with-numbers-requires-3
+with-numbers-requires-3 c κs = search needs
+
+enum-told-2 : tie.Need-enum-told-2
+enum-told-2 c = search needs
+
+with-numbers-requires-4 : tie.Need-with-numbers-requires-4
+with-numbers-requires-4 c κs = search needs
+
+returns : tie.Need-returns
+unfolding commandText each
+returns c = search (is-answer, needs)
+
+returns-2 : tie.Need-returns-2
+unfolding commandText each
+returns-2 c = search (is-answer, needs)
+
+returns-3 : tie.Need-returns-3
+unfolding commandText each
+returns-3 c = search (is-answer, needs)
+
+returns-4 : tie.Need-returns-4
+unfolding commandText each
+returns-4 c = search (is-answer, needs)
+
+returns-5 : tie.Need-returns-5
+unfolding commandText each
+returns-5 c = search (is-answer, needs)
+
+returns-6 : tie.Need-returns-6
+unfolding commandText each
+returns-6 c = search (is-answer, needs)
+
+returns-7 : tie.Need-returns-7
+unfolding commandText each
+returns-7 c = search (is-answer, needs)
+
+returns-8 : tie.Need-returns-8
+unfolding commandText each
+returns-8 c = search (is-answer, needs)
+
+pub answer-of-spec : {M : Type 1} → statement M
+answer-of-spec =
+    tie.close
+    (tie.spec
+    enum-known-command
+    cast-t25
+    with-numbers-requires
+    enum-known-command-2
+    with-value-requires
+    enum-known-command-3
+    with-value-requires-2
+    enum-known-command-4
+    with-value-requires-3
+    enum-known-command-5
+    with-value-requires-4
+    enum-known-command-6
+    cast-t37
+    cast-t38
+    cast-t39
+    with-numbers-requires-2
+    enum-told
+    with-numbers-requires-3
+    enum-told-2
+    with-numbers-requires-4
+    returns
+    returns-2
+    returns-3
+    returns-4
+    returns-5
+    returns-6
+    returns-7
+    returns-8)
