@@ -1,21 +1,19 @@
 -- The lines, for each way that the tests can go.
-use Prim.Native.Nat.{ℕ, _+_, _*_, _<_, _≤_}
-use mathlib.Core.Path.{_≡_, refl, sym, subst, _∙_}
-use mathlib.Core.Bool.{Bool, true, false, true≢false, not, Bool·beq}
+use Prim.Native.Nat.{ℕ, _+_, _<_, _≤_}
+use mathlib.Core.Path.{_≡_}
+use mathlib.Core.Bool.{Bool, true, false}
 use mathlib.Core.List.{List, [], _∷_, _++_}
 use native.Mathlib.Numerals.{add-one}
-use lib.Dec.{T}
-use lib.Ieee.{Float, nan, inf, fin, up, down, eq, isNan, binary32, toBits}
 use lib.ListN.{length, getD, take, drop, drop-of-length-le}
 use lib.Seq.{drop-cons}
 use borrow.Author.Tests.{eq-eqb, ne-eqb}
 use Rattle.text.specs.Added.{Adds}
-use Rattle.text.specs.Digits.{spaced, hex}
+use Rattle.text.specs.Digits.{hex}
 use Rattle.text.specs.Laws.{adds-both, adds-after}
 use Rattle.script.specs.declared.Next.{Next}
 use Rattle.next_command.specs.declared.Command.{Command}
-use Rattle.lines.specs.declared.Answer.{Answer}
-use Rattle.lines.specs.Lines.{begun, replyText, untouched, markedEnd, servedLine, highFirst, valueText, commandText, answerText, doneLine, stopText}
+use Rattle.command_words.specs.Commands.{commandText}
+use Rattle.lines.specs.Lines.{begun, replyText, untouched, markedEnd, servedLine, doneLine, stopText}
 
 -- the bytes past a reply
 
@@ -62,59 +60,14 @@ pub served-line
 unfolding servedLine
 served-line letter outcome id len reply before between third after at n m r clean is first second last = rw (← is) (adds-both first (adds-both second last))
 
--- values
-
-pub no-nan : (x : Float) → eq x x ≡ true → T (not (isNan x))
-unfolding eq isNan
-no-nan nan h = subst T (sym h) tt
-no-nan (inf s) h = tt
-no-nan (fin s m e) h = tt
-
-signs-same : (s : Bool) → Bool·beq s s ≡ true
-signs-same true = refl
-signs-same false = refl
-
-pub nan-bits : (x : Float) → eq x x ≡ false → 2143289344 ≡ toBits binary32 x
-unfolding eq toBits
-nan-bits nan h = refl
-nan-bits (inf s) h = absurd (true≢false (sym (signs-same s) ∙ h))
-nan-bits (fin s m e) h =
-    let n = m * up e * down e in
-    absurd (true≢false (sym (rw (eq-eqb n n refl, signs-same s)) ∙ h))
-
-pub value-text
-    : (x : Float) (n : ℕ) (before between after : List ℕ) (at k r : ℕ)
-    → n ≡ toBits binary32 x
-    → Adds (32 ∷ []) before at between k
-    → Adds (hex (highFirst n)) between k after r
-    → Adds (valueText x) before at after r
-value-text x n before between after at k r e space digits = rw (← e) (adds-after 32 (hex (highFirst n)) space digits)
-
--- what is told of a command, and of what stands next
-
-pub is-answer : (command is : Command) (t : Answer) → command ≡ is → answerText t ≡ commandText is → answerText t ≡ commandText command
-is-answer command is t e same = rw e same
-
-module _ (t : Answer) (w ns before between third after : List ℕ) (at k m r : ℕ) (front : w ≡ take (t .letters) (t .word)) (first : ns ≡ take (t .numbers) (t .list))
-    (word : Adds w before at between k) (list : Adds (spaced ns) between k third m)
-  where
-    pub answer-value : t .valued ≡ true → Adds (valueText (t .value)) third m after r → Adds (answerText t) before at after r
-    unfolding answerText
-    answer-value e value = rw (e, ← front, ← first) (adds-both word (adds-both list value))
-
-    pub answer-none : t .valued ≡ false → Adds [] third m after r → Adds (answerText t) before at after r
-    unfolding answerText
-    answer-none e none = rw (e, ← front, ← first) (adds-both word (adds-both list none))
-
 pub done-line
-    : (outcome : ℕ) (command : Command) (t : Answer) (before between third after : List ℕ) (at n m r : ℕ)
-    → answerText t ≡ commandText command
+    : (outcome : ℕ) (command : Command) (before between third after : List ℕ) (at n m r : ℕ)
     → Adds (begun 100 (outcome ∷ [])) before at between n
-    → Adds (answerText t) between n third m
+    → Adds (commandText command) between n third m
     → Adds (10 ∷ []) third m after r
     → Adds (doneLine outcome command) before at after r
 unfolding doneLine
-done-line outcome command t before between third after at n m r e first second last = rw (← e) (adds-both first (adds-both second last))
+done-line outcome command before between third after at n m r first second last = adds-both first (adds-both second last)
 
 pub as-next : (before after : List ℕ) (at r : ℕ) (next is : Next) → next ≡ is → Adds (stopText is) before at after r → Adds (stopText next) before at after r
 as-next before after at r next is e adds = rw e adds

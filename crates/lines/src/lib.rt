@@ -1,11 +1,9 @@
 // The lines that a call script's records print, each put behind the text so far.
 ghost use mathlib.Core.Path.{_≡_};
-ghost use mathlib.Core.List.{[], _∷_, _++_};
-ghost use lib.Ieee.{binary32, toBits};
-ghost use lib.ListN.{take, drop};
+ghost use mathlib.Core.List.{_∷_};
+ghost use lib.ListN.{drop};
 ghost use Rattle.text.specs.Added.{Adds};
-ghost use Rattle.text.specs.Digits.{spaced};
-ghost use Rattle.lines.specs.Lines.{begun, replyText, untouched as Lines·untouched, markedEnd, servedLine, valueText, answerText, commandText, doneLine, row, stopText};
+ghost use Rattle.lines.specs.Lines.{begun, replyText, untouched as Lines·untouched, markedEnd, servedLine, doneLine, row, stopText};
 use next_command::Command;
 use script::Next;
 
@@ -71,109 +69,13 @@ pub fn put_served(
     put_end(out, end, untouched(reply, len))
 }
 
-// The bit pattern of a value; every NaN is shown as the quiet one.
-fn bits(x: f32) -> u32
-    ensures { λ r. ⌜ r ≡ toBits binary32 x ⌝ }
-{
-    if x == x {
-        return f32::to_bits(x);
-    }
-    0x7fc0_0000
-}
-
-// A value after a space.
-fn put_value(out: &mut [u8], at: usize, x: f32) -> usize
-    ensures { λ r. ⌜ Adds (valueText x) (now (out .entry)) at (now (out .exit)) r ⌝ }
-{
-    let n = bits(x);
-    let bytes = [
-        (n / 16777216) as u8,
-        (n / 65536 % 256) as u8,
-        (n / 256 % 256) as u8,
-        (n % 256) as u8,
-    ];
-    let end = text::put_byte(out, at, b' ');
-    text::put_hex(out, end, &bytes)
-}
-
-// What is told of a command: the first letters of a word, the first numbers of a list, and a value or none.
-struct Answer {
-    word: [u8; 9],
-    letters: usize,
-    list: [u64; 3],
-    numbers: usize,
-    valued: bool,
-    value: f32,
-}
-
-fn with_value(word: [u8; 9], letters: usize, n: u16, value: f32) -> Answer
-    ensures { λ r. ⌜ answerText r ≡ take letters word ++ (spaced (n ∷ []) ++ valueText value) ⌝ }
-{
-    Answer {
-        word,
-        letters,
-        list: [n as u64, 0, 0],
-        numbers: 1,
-        valued: true,
-        value,
-    }
-}
-
-fn with_numbers(word: [u8; 9], letters: usize, list: [u64; 3], numbers: usize) -> Answer
-    ensures { λ r. ⌜ answerText r ≡ take letters word ++ spaced (take numbers list) ⌝ }
-{
-    Answer {
-        word,
-        letters,
-        list,
-        numbers,
-        valued: false,
-        value: 0.0,
-    }
-}
-
-fn answer_of(command: Command) -> Answer
-    ensures { λ r. ⌜ answerText r ≡ commandText command ⌝ }
-{
-    match command {
-        Command::Fly(n) => with_numbers(*b" fly     ", 4, [n as u64, 0, 0], 1),
-        Command::Wait(n, x) => with_value(*b" wait    ", 5, n, x),
-        Command::Near(n, x) => with_value(*b" near    ", 5, n, x),
-        Command::Turn(n, x) => with_value(*b" turn    ", 5, n, x),
-        Command::Speed(n, x) => with_value(*b" speed   ", 6, n, x),
-        Command::Servo(n, channel, pulse) => {
-            with_numbers(
-                *b" servo   ",
-                6,
-                [n as u64, channel as u64, pulse as u64],
-                3,
-            )
-        }
-        Command::Finished => with_numbers(*b" finished", 9, [0; 3], 0),
-        Command::Stuck => with_numbers(*b" stuck   ", 6, [0; 3], 0),
-    }
-}
-
-fn put_answer(out: &mut [u8], at: usize, t: Answer) -> usize
-    ensures { λ r. ⌜ Adds (answerText t) (now (out .entry)) at (now (out .exit)) r ⌝ }
-{
-    let word = t.word;
-    let end = text::put(out, at, text::front(&word, t.letters));
-    let list = t.list;
-    let end = text::put_numbers(out, end, text::first(&list, t.numbers));
-    if t.valued {
-        return put_value(out, end, t.value);
-    }
-    text::put(out, end, b"")
-}
-
 // What a "command done" call answered.
 pub fn put_done(out: &mut [u8], at: usize, outcome: u8, command: Command) -> usize
     ensures { λ r. ⌜ Adds (doneLine outcome command) (now (out .entry)) at (now (out .exit)) r ⌝ }
 {
     let list = [outcome as u64];
     let end = put_begun(out, at, b'd', &list);
-    let end = put_answer(out, end, answer_of(command));
+    let end = command_words::put_command(out, end, command);
     text::put_byte(out, end, b'\n')
 }
 

@@ -10,11 +10,8 @@ slice-aggregate-put-begun c = search needs
 put-begun-requires : tie.Need-put-begun-requires
 put-begun-requires c κs = search needs
 
-answer-of-requires : tie.Need-answer-of-requires
-answer-of-requires c κs = search needs
-
-put-answer-requires : tie.Need-put-answer-requires
-put-answer-requires c κs = search needs
+put-command-requires : tie.Need-put-command-requires
+put-command-requires c κs = search needs
 
 put-byte-requires : tie.Need-put-byte-requires
 put-byte-requires c κs = search needs
@@ -31,8 +28,7 @@ put-done-spec =
     (tie.spec
     slice-aggregate-put-begun
     put-begun-requires
-    answer-of-requires
-    put-answer-requires
+    put-command-requires
     put-byte-requires
     same-length
     returns)

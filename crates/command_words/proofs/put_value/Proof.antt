@@ -1,8 +1,8 @@
--- `lines::put_value` meets its contract: a space, then the pattern's bytes, highest first.
-use Rattle.lines.proofs.Ways.{value-text}
+-- `command_words::put_value` meets its contract: a space, then the pattern's bytes, highest first.
+use Rattle.command_words.proofs.Ways.{value-text}
 use borrow.Author.Needs.{needs}
-use Rattle.lines.proofs.put_value.Statement.{statement}
-use Rattle.lines.proofs.put_value.Tie as tie
+use Rattle.command_words.proofs.put_value.Statement.{statement}
+use Rattle.command_words.proofs.put_value.Tie as tie
 
 bits-requires : tie.Need-bits-requires
 bits-requires c κs = search needs

@@ -1,10 +1,10 @@
--- `lines::answer_of` meets its contract, for each command.
-use Rattle.lines.proofs.Ways.{is-answer}
-use Rattle.lines.specs.Lines.{commandText}
+-- `command_words::answer_of` meets its contract, for each command.
+use Rattle.command_words.proofs.Ways.{is-answer}
+use Rattle.command_words.specs.Commands.{commandText}
 use Rattle.text.specs.Digits.{each}
 use borrow.Author.Needs.{needs}
-use Rattle.lines.proofs.answer_of.Statement.{statement}
-use Rattle.lines.proofs.answer_of.Tie as tie
+use Rattle.command_words.proofs.answer_of.Statement.{statement}
+use Rattle.command_words.proofs.answer_of.Tie as tie
 
 enum-known-command : tie.Need-enum-known-command
 enum-known-command c = search needs

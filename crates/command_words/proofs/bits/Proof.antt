@@ -1,8 +1,8 @@
--- `lines::bits` meets its contract: a value that equals itself is no NaN.
-use Rattle.lines.proofs.Ways.{no-nan, nan-bits}
+-- `command_words::bits` meets its contract: a value that equals itself is no NaN.
+use Rattle.command_words.proofs.Ways.{no-nan, nan-bits}
 use borrow.Author.Needs.{needs}
-use Rattle.lines.proofs.bits.Statement.{statement}
-use Rattle.lines.proofs.bits.Tie as tie
+use Rattle.command_words.proofs.bits.Statement.{statement}
+use Rattle.command_words.proofs.bits.Tie as tie
 
 float-to-bits-result : tie.Need-float-to-bits-result
 float-to-bits-result c = no-nan (c .before .args .x) (c .if1 .taken)

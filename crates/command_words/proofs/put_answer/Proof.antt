@@ -1,8 +1,8 @@
--- `lines::put_answer` meets its contract: the word, the numbers, and the value or none.
-use Rattle.lines.proofs.Ways.{answer-value, answer-none}
+-- `command_words::put_answer` meets its contract: the word, the numbers, and the value or none.
+use Rattle.command_words.proofs.Ways.{answer-value, answer-none}
 use borrow.Author.Needs.{needs}
-use Rattle.lines.proofs.put_answer.Statement.{statement}
-use Rattle.lines.proofs.put_answer.Tie as tie
+use Rattle.command_words.proofs.put_answer.Statement.{statement}
+use Rattle.command_words.proofs.put_answer.Tie as tie
 
 slice-aggregate-front : tie.Need-slice-aggregate-front
 slice-aggregate-front c = search needs

@@ -1,0 +1,33 @@
+-- A command in words, as the lines of a call script have it.
+use Prim.Native.Nat.{ℕ, _/_, _%_}
+use mathlib.Core.Bool.{cond}
+use mathlib.Core.List.{List, [], _∷_, _++_}
+use lib.Ieee.{Float, binary32, toBits}
+use lib.ListN.{take}
+use Rattle.text.specs.Words.{ascii}
+use Rattle.text.specs.Digits.{spaced, hex}
+use Rattle.command_words.specs.declared.Answer.{Answer}
+use Rattle.next_command.specs.declared.Command.{Command}
+use Rattle.next_command.specs.declared.Command.the-variants.{Fly, Wait, Near, Turn, Speed, Servo, Finished, Stuck}
+
+-- a value after a space: "8 hex digits, the bit pattern .., highest first". Every NaN is shown as the quiet one without a sign.
+abbrev pub highFirst : ℕ → List ℕ
+highFirst n = n / 16777216 ∷ n / 65536 % 256 ∷ n / 256 % 256 ∷ n % 256 ∷ []
+
+abbrev pub valueText : Float → List ℕ
+valueText x = 32 ∷ hex (highFirst (toBits binary32 x))
+
+-- "ANSWER is one of .."
+unfoldable pub commandText : Command → List ℕ
+commandText (Fly n) = ascii " fly" ++ spaced (n ∷ [])
+commandText (Wait n x) = ascii " wait" ++ (spaced (n ∷ []) ++ valueText x)
+commandText (Near n x) = ascii " near" ++ (spaced (n ∷ []) ++ valueText x)
+commandText (Turn n x) = ascii " turn" ++ (spaced (n ∷ []) ++ valueText x)
+commandText (Speed n x) = ascii " speed" ++ (spaced (n ∷ []) ++ valueText x)
+commandText (Servo n channel pulse) = ascii " servo" ++ spaced (n ∷ channel ∷ pulse ∷ [])
+commandText Finished = ascii " finished"
+commandText Stuck = ascii " stuck"
+
+-- the same as the code holds it
+unfoldable pub answerText : Answer → List ℕ
+answerText t = take (t .letters) (t .word) ++ (spaced (take (t .numbers) (t .list)) ++ cond (t .valued) (valueText (t .value)) [])

@@ -1,0 +1,2 @@
+-- Commands in words.
+pub mod Commands
