@@ -95,7 +95,7 @@ fn put_answer(out: &mut [u8], at: usize, t: Answer) -> usize
     ensures { λ r. ⌜ Adds (answerText t) (now (out .entry)) at (now (out .exit)) r ⌝ }
 {
     let word = t.word;
-    let end = text::put(out, at, text::front(&word, t.letters));
+    let end = text::put(out, at, text::part(&word, 0, t.letters));
     let list = t.list;
     let end = text::put_numbers(out, end, text::first(&list, t.numbers));
     if t.valued {

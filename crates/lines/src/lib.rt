@@ -11,7 +11,7 @@ use script::Next;
 pub const REPLY_FILL: u8 = 0xA5;
 
 // A letter and numbers: what every line begins with.
-fn put_begun(out: &mut [u8], at: usize, letter: u8, list: &[u64]) -> usize
+pub fn put_begun(out: &mut [u8], at: usize, letter: u8, list: &[u64]) -> usize
     ensures { λ r. ⌜ Adds (begun letter (now (list .entry))) (now (out .entry)) at (now (out .exit)) r ⌝ }
 {
     let end = text::put_byte(out, at, letter);
@@ -25,7 +25,7 @@ fn put_reply(out: &mut [u8], at: usize, len: usize, reply: &[u8]) -> usize
     if len == 0 {
         return text::put_byte(out, end, b'-');
     }
-    text::put_hex(out, end, text::front(reply, len))
+    text::put_hex(out, end, text::part(reply, 0, len))
 }
 
 // Whether the bytes of a reply array from len on are what they were before the call.

@@ -4,7 +4,8 @@ use mathlib.Core.Path.{_≡_, refl, ap, sym, _∙_}
 use mathlib.Core.List.{List, [], _∷_, _++_, append-assoc, append-nil}
 use native.Mathlib.Numerals.{add-one}
 use native.Mathlib.Omega.{arith}
-use lib.ListN.{length, take, set, getD, length-take, length-append, length-set}
+use native.Mathlib.Decide.{decLe}
+use lib.ListN.{length, take, drop, set, getD, drop-of-length-le, length-drop, length-take, length-append, length-set}
 use lib.Seq.{take-all, take-suc, take-length, take-append-seam, take-suc-set, length-take-le}
 use borrow.Author.Tests.{le-leb, lt-leb}
 use Rattle.io.specs.Counts.{Counts}
@@ -86,6 +87,10 @@ module _ (l before between after : List ℕ) (at i n r : ℕ) (h : i < length l)
       : (text : ℕ → List ℕ) → Adds (each text (take i l)) before at between n → Adds (text (getD l i 0)) between n after r → Adds (each text (take (i + 1) l)) before at after r
   put-each-more text first second = rw (front-more l i h, each-more text (take i l) (getD l i 0)) (adds-both first second)
 
+  pub put-each-as
+      : (text : ℕ → List ℕ) (x : ℕ) → x ≡ getD l i 0 → Adds (each text (take i l)) before at between n → Adds (text x) between n after r → Adds (each text (take (i + 1) l)) before at after r
+  put-each-as text x is first second = put-each-more text first (rw is at second)
+
 -- at the end it is the whole list
 pub whole-list : (text : List ℕ → List ℕ) (l before after : List ℕ) (at i r : ℕ) → length l ≤ i → Adds (text (take i l)) before at after r → Adds (text l) before at after r
 whole-list text l before after at i r most adds = rw (take-all i l most) at adds
@@ -96,6 +101,27 @@ counted n l h = sym (length-take-le n l (omega arith))
 
 pub all-front : (n : ℕ) (l : List ℕ) → length l ≤ n → l ≡ take n l
 all-front n l h = sym (take-all n l h)
+
+-- a part of a list
+module _ (l : List ℕ) (from start n : ℕ) (is : start ≡ min from (length l)) where
+  from-there : drop start l ≡ drop from l
+  from-there = go (decLe from (length l))
+    where
+      go : Dec (from ≤ length l) → drop start l ≡ drop from l
+      go (yes h) = let same : start ≡ from = omega arith in ap (λ (k : ℕ). drop k l) same
+      go (no h) =
+          let past : length l ≤ start = omega arith in
+          let far : length l ≤ from = omega arith in
+          drop-of-length-le l past ∙ sym (drop-of-length-le l far)
+
+  pub some-part : take (start + n - start) (drop start l) ≡ take n (drop from l)
+  some-part = let size : start + n - start ≡ n = omega arith in ap (λ (k : ℕ). take k (drop start l)) size ∙ ap (λ (k : List ℕ). take n k) from-there
+
+  pub whole-part : length l - start ≤ n → take (length l - start) (drop start l) ≡ take n (drop from l)
+  whole-part h =
+      take-all (length l - start) (drop start l) (omega (arith, length-drop start l))
+      ∙ sym (take-all n (drop start l) (omega (arith, length-drop start l)))
+      ∙ ap (λ (k : List ℕ). take n k) from-there
 
 -- the places in a buffer, and its end for those past it
 pub within-place : (n r : ℕ) (l : List ℕ) → r ≡ min n (length l) → (r ≡ min n (length l)) × Counts r l

@@ -2,7 +2,7 @@
 ghost use Prim.Native.Nat.{_<_, min};
 ghost use mathlib.Core.Path.{_≡_};
 ghost use mathlib.Core.List.{[], _∷_};
-ghost use lib.ListN.{length, take};
+ghost use lib.ListN.{length, take, drop};
 ghost use Rattle.io.specs.Counts.{Counts};
 ghost use Rattle.text.specs.Added.{Adds};
 ghost use Rattle.text.specs.Digits.{digit as Digits·digit, decimal, afterSpace, spaced, twoDigits, hex};
@@ -15,14 +15,16 @@ pub fn within(at: usize, out: &[u8]) -> usize
     if at < out.len() { at } else { out.len() }
 }
 
-// The first bytes, or all where there are fewer.
-pub fn front(bytes: &[u8], n: usize) -> &[u8]
-    ensures { λ r. ⌜ now r ≡ take n (now (bytes .entry)) ⌝ }
+// The bytes from a place on, n of them, or as many as there are.
+pub fn part(bytes: &[u8], from: usize, n: usize) -> &[u8]
+    ensures { λ r. ⌜ now r ≡ take n (drop from (now (bytes .entry))) ⌝ }
 {
-    if n < bytes.len() {
-        return &bytes[..n];
+    let start = within(from, bytes);
+    if n < bytes.len() - start {
+        let end = start + n;
+        return &bytes[start..end];
     }
-    bytes
+    &bytes[start..]
 }
 
 // The first numbers of a list, or all where there are fewer.
@@ -81,6 +83,25 @@ pub fn put_numbers(out: &mut [u8], at: usize, list: &[u64]) -> usize
     let mut i = 0;
     while i < list.len() {
         end = put_after_space(out, end, list[i]);
+        i += 1;
+    }
+    end
+}
+
+fn wide(n: u16) -> u64
+    ensures { λ r. ⌜ r ≡ n ⌝ }
+{
+    n as u64
+}
+
+// The same of shorter numbers.
+pub fn put_shorts(out: &mut [u8], at: usize, list: &[u16]) -> usize
+    ensures { λ r. ⌜ Adds (spaced (now (list .entry))) (now (out .entry)) at (now (out .exit)) r ⌝ }
+{
+    let mut end = within(at, out);
+    let mut i = 0;
+    while i < list.len() {
+        end = put_after_space(out, end, wide(list[i]));
         i += 1;
     }
     end

@@ -5,12 +5,14 @@ mod reading;
 mod sending;
 
 pub use adding::first;
-pub use adding::front;
+pub use adding::part;
 pub use adding::put;
 pub use adding::put_byte;
 pub use adding::put_hex;
 pub use adding::put_number;
 pub use adding::put_numbers;
+pub use adding::put_shorts;
+pub use adding::within;
 pub use reading::Unread;
 pub use reading::read_on;
 pub use sending::send;

@@ -4,11 +4,11 @@ use borrow.Author.Needs.{needs}
 use Rattle.command_words.proofs.put_answer.Statement.{statement}
 use Rattle.command_words.proofs.put_answer.Tie as tie
 
-slice-aggregate-front : tie.Need-slice-aggregate-front
-slice-aggregate-front c = search needs
+slice-aggregate-part : tie.Need-slice-aggregate-part
+slice-aggregate-part c = search needs
 
-front-requires : tie.Need-front-requires
-front-requires c κs = search needs
+part-requires : tie.Need-part-requires
+part-requires c κs = search needs
 
 put-requires : tie.Need-put-requires
 put-requires c κs = search needs
@@ -47,8 +47,8 @@ pub put-answer-spec : {M : Type 1} → statement M
 put-answer-spec =
     tie.close
     (tie.spec
-    slice-aggregate-front
-    front-requires
+    slice-aggregate-part
+    part-requires
     put-requires
     slice-aggregate-first
     first-requires

@@ -16,8 +16,8 @@ same-length c = search needs
 returns : tie.Need-returns
 returns c = search (no-reply, needs)
 
-front-requires : tie.Need-front-requires
-front-requires c κs = search needs
+part-requires : tie.Need-part-requires
+part-requires c κs = search needs
 
 put-hex-requires : tie.Need-put-hex-requires
 put-hex-requires c κs = search needs
@@ -36,7 +36,7 @@ put-reply-spec =
     put-byte-requires-2
     same-length
     returns
-    front-requires
+    part-requires
     put-hex-requires
     same-length-2
     returns-2)

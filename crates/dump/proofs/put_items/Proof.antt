@@ -1,0 +1,63 @@
+-- `dump::put_items` meets its contract. The loop's invariant: the lines of the first n items are added.
+use Prim.Native.Nat.{_-_, _≤_}
+use borrow.Author.Needs.{needs}
+use Rattle.text.specs.Added.{Adds}
+use Rattle.text.specs.Laws.{adds-nothing}
+use Rattle.dump.specs.Dumps.{itemLines}
+use Rattle.dump.proofs.Ways.{items-more, all-items}
+use Rattle.dump.proofs.put_items.Statement.{statement}
+use Rattle.dump.proofs.put_items.Tie as tie
+
+abbrev Inv-loop : tie.InvT-loop
+Inv-loop out₀ at letter kind half count store end₀ n₀ out end n = (n ≤ count) × Adds (itemLines letter kind half store n) out₀ at out end
+
+abbrev μ-loop : tie.MeasureT-loop
+μ-loop out₀ at letter kind half count store end₀ n₀ out end n = count - n
+
+within-requires : tie.Need-within-requires Inv-loop μ-loop
+within-requires c κs = search needs
+
+loop-holds : tie.Need-loop-holds Inv-loop μ-loop
+unfolding itemLines
+loop-holds c = search (adds-nothing, needs)
+
+place-at-requires : tie.Need-place-at-requires Inv-loop μ-loop
+place-at-requires c κs = search needs
+
+part-requires : tie.Need-part-requires Inv-loop μ-loop
+part-requires c κs = search needs
+
+put-item-requires : tie.Need-put-item-requires Inv-loop μ-loop
+put-item-requires c κs = search needs
+
+add-n : tie.Need-add-n Inv-loop μ-loop
+add-n c = search needs
+
+loop-less : tie.Need-loop-less Inv-loop μ-loop
+loop-less c = search needs
+
+loop-again : tie.Need-loop-again Inv-loop μ-loop
+loop-again c = search (items-more, needs)
+
+same-length : tie.Need-same-length Inv-loop μ-loop
+same-length c = c .before .loop .inv .1 .room
+
+returns : tie.Need-returns Inv-loop μ-loop
+returns c = search (all-items, needs)
+
+pub put-items-spec : {M : Type 1} → statement M
+put-items-spec =
+    tie.close
+    (tie.spec
+    Inv-loop
+    μ-loop
+    within-requires
+    loop-holds
+    place-at-requires
+    part-requires
+    put-item-requires
+    add-n
+    loop-less
+    loop-again
+    same-length
+    returns)

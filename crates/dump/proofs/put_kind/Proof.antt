@@ -1,0 +1,34 @@
+-- `dump::put_kind` meets its contract: the plan, then the items of both halves.
+use Rattle.dump.proofs.Ways.{kind-text}
+use borrow.Author.Needs.{needs}
+use Rattle.dump.proofs.put_kind.Statement.{statement}
+use Rattle.dump.proofs.put_kind.Tie as tie
+
+put-plan-requires : tie.Need-put-plan-requires
+put-plan-requires c κs = search needs
+
+put-items-requires : tie.Need-put-items-requires
+put-items-requires c κs = search needs
+
+brought-requires : tie.Need-brought-requires
+brought-requires c κs = search needs
+
+put-items-requires-2 : tie.Need-put-items-requires-2
+put-items-requires-2 c κs = search needs
+
+same-length : tie.Need-same-length
+same-length c = search needs
+
+returns : tie.Need-returns
+returns c = search (kind-text, needs)
+
+pub put-kind-spec : {M : Type 1} → statement M
+put-kind-spec =
+    tie.close
+    (tie.spec
+    put-plan-requires
+    put-items-requires
+    brought-requires
+    put-items-requires-2
+    same-length
+    returns)

@@ -1,0 +1,2 @@
+-- The lines of a dump.
+pub mod Dumps
