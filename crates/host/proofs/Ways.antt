@@ -1,0 +1,90 @@
+-- What a host sets, for each way that the tests can go.
+use Prim.Native.Nat.{ℕ, _+_, _-_, _%_, _<_, _≤_}
+use mathlib.Core.Path.{_≡_, ap, sym}
+use mathlib.Core.Bool.{Bool, true, false, true≢false, not, _&&_, cond}
+use mathlib.Core.List.{List, [], _∷_, _++_, append-nil}
+use native.Mathlib.Omega.{arith}
+use lib.Dec.{eqb, ltb}
+use lib.ListN.{length, set, take, drop, drop-of-length-le, length-drop}
+use lib.Seq.{take-all, take-length, drop-drop}
+use borrow.Rule.Slice.PartMut.{putMid}
+use borrow.Author.Tests.{ltb-true, le-leb, lt-leb}
+use Rattle.rules.specs.Limits.{maxJumps}
+use Rattle.rules.specs.Payload.{Bytes}
+use Rattle.plan.specs.declared.Plan.{Plan}
+use Rattle.plan.specs.declared.Run.{Run}
+use Rattle.plan.specs.declared.State.{State}
+use Rattle.plan.specs.declared.Upload.{Upload}
+use Rattle.plan.specs.declared.Upload.the-variants.{Idle, Running}
+use Rattle.plan.specs.View.{planOf}
+use Rattle.host.specs.Pokes.{fieldFor, pokedRun, pokedUpload, pokedPlan, pokedCounts, pokedState, written}
+
+module _ (u : Upload) (field v : ℕ) where
+  module _ (idle : u ≡ Idle) where
+    pub starts : (eqb field 3 && not (eqb v 0)) ≡ true → Running (record { system = 0; component = 0; count = 0; next = 0; started = 0; repeats = 0 }) ≡ pokedUpload u field v
+    unfolding pokedUpload
+    starts e = rw (idle, e)
+
+    pub stays-idle : (eqb field 3 && not (eqb v 0)) ≡ false → Idle ≡ pokedUpload u field v
+    unfolding pokedUpload
+    stays-idle e = rw (idle, e)
+
+  module _ (r : Run) (runs : u ≡ Running r) where
+    pub stops : (eqb field 3 && eqb v 0) ≡ true → Idle ≡ pokedUpload u field v
+    unfolding pokedUpload
+    stops e = rw (runs, e)
+
+    pub runs-on : (r′ : Run) → (eqb field 3 && eqb v 0) ≡ false → r′ ≡ pokedRun r field v → Running r′ ≡ pokedUpload u field v
+    unfolding pokedUpload
+    runs-on r′ e is = rw (runs, e, ← is)
+
+pub below : (a : Bool) (i n : ℕ) → (a && ltb i n) ≡ true → i < n
+below true i n e = ltb-true i n e
+below false i n e = absurd (true≢false (sym e))
+
+module _ (st : State) (field index v f g h : ℕ) (ff : f ≡ fieldFor 0 index field) (gg : g ≡ fieldFor 1 index field) (hh : h ≡ fieldFor 2 index field) where
+  pub state-set
+      : (p q r : Plan) (current : ℕ) (begun : Bool) (counts : List ℕ)
+      → p ≡ pokedPlan (planOf st 0) f v
+      → q ≡ pokedPlan (planOf st 1) g v
+      → r ≡ pokedPlan (planOf st 2) h v
+      → current ≡ cond (eqb field 10) (v % 65536) (st .current)
+      → begun ≡ cond (eqb field 11) (not (eqb v 0)) (st .begun)
+      → counts ≡ pokedCounts (st .counts) field index v
+      → record { plans = p ∷ q ∷ r ∷ []; current = current; begun = begun; counts = counts } ≡ pokedState st field index v
+  unfolding pokedState
+  state-set p q r current begun counts pp qq rr cc′ bb nn = rw (pp, qq, rr, ff, gg, hh, cc′, bb, nn)
+
+module _ (counts : List ℕ) (field index v : ℕ) where
+  pub count-set : (eqb field 12 && ltb index maxJumps) ≡ true → set counts index (v % 65536) ≡ pokedCounts counts field index v
+  unfolding pokedCounts
+  count-set e = rw e
+
+  pub count-left : (eqb field 12 && ltb index maxJumps) ≡ false → counts ≡ pokedCounts counts field index v
+  unfolding pokedCounts
+  count-left e = rw e
+
+module _ (store : Bytes) (at : ℕ) (bytes : Bytes) where
+  pub no-place : length store < at → store ≡ written store at bytes
+  unfolding written
+  no-place h = rw (lt-leb (at + length bytes) (length store) (omega arith))
+
+  pub no-room : at ≤ length store → length store - at < length bytes → store ≡ written store at bytes
+  unfolding written
+  no-room h short = rw (lt-leb (at + length bytes) (length store) (omega arith))
+
+  module _ (h : at ≤ length store) (fits : length bytes ≤ length store - at) where
+    rest : drop (length store - at) (drop at store) ≡ []
+    rest = let past : length (drop at store) ≤ length store - at = omega (arith, length-drop at store) in drop-of-length-le (drop at store) past
+
+    all : take (length store - at) (drop at store) ≡ drop at store
+    all = take-all (length store - at) (drop at store) (omega (arith, length-drop at store))
+
+    pub copied
+        : (part : Bytes)
+        → part ≡ take (length bytes) bytes ++ drop (length bytes) (take (length store - at) (drop at store))
+        → putMid at (length store - at) store part ≡ written store at bytes
+    unfolding written
+    copied part e =
+        rw (le-leb (at + length bytes) (length store) (omega arith), e, rest, all, take-length bytes, drop-drop (length bytes) at store)
+        (ap (λ (l : Bytes). take at store ++ l) (append-nil (bytes ++ drop (at + length bytes) store)))

@@ -1,0 +1,39 @@
+-- `host::poked_run` meets its contract, field by field.
+use Rattle.host.specs.Pokes.{pokedRun}
+use borrow.Author.Needs.{needs}
+use Rattle.host.proofs.poked_run.Statement.{statement}
+use Rattle.host.proofs.poked_run.Tie as tie
+
+set8-requires : tie.Need-set8-requires
+set8-requires c κs = search needs
+
+set8-requires-2 : tie.Need-set8-requires-2
+set8-requires-2 c κs = search needs
+
+set16-requires : tie.Need-set16-requires
+set16-requires c κs = search needs
+
+set16-requires-2 : tie.Need-set16-requires-2
+set16-requires-2 c κs = search needs
+
+set32-requires : tie.Need-set32-requires
+set32-requires c κs = search needs
+
+set8-requires-3 : tie.Need-set8-requires-3
+set8-requires-3 c κs = search needs
+
+returns : tie.Need-returns
+unfolding pokedRun
+returns c = cc
+
+pub poked-run-spec : {M : Type 1} → statement M
+poked-run-spec =
+    tie.close
+    (tie.spec
+    set8-requires
+    set8-requires-2
+    set16-requires
+    set16-requires-2
+    set32-requires
+    set8-requires-3
+    returns)

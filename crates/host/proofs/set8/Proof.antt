@@ -1,0 +1,16 @@
+-- `host::set8` meets its contract, by its test.
+use borrow.Author.Needs.{needs}
+use Rattle.host.proofs.set8.Statement.{statement}
+use Rattle.host.proofs.set8.Tie as tie
+
+cast-result : tie.Need-cast-result
+cast-result c = search needs
+
+returns : tie.Need-returns
+returns c = rw (c .if1 .taken)
+
+returns-2 : tie.Need-returns-2
+returns-2 c = search needs
+
+pub set8-spec : {M : Type 1} → statement M
+set8-spec = tie.close (tie.spec cast-result returns returns-2)

@@ -1,0 +1,2 @@
+-- What a host does between the calls.
+pub mod Pokes

@@ -1,0 +1,68 @@
+-- A number of the state that a host sets, by its field and index: POKE of a call script. "b4 is the field, b0 the index, a the new value."
+-- And bytes that it writes into the store.
+use Prim.Native.Nat.{ℕ, _+_, _%_}
+use mathlib.Core.Bool.{Bool, not, _&&_, cond}
+use mathlib.Core.List.{List, [], _∷_, _++_}
+use lib.Dec.{eqb, ltb, leb}
+use lib.ListN.{length, set, take, drop}
+use Rattle.rules.specs.Limits.{maxJumps}
+use Rattle.rules.specs.Payload.{Bytes}
+use Rattle.plan.specs.declared.Plan.{Plan}
+use Rattle.plan.specs.declared.Run.{Run}
+use Rattle.plan.specs.declared.State.{State}
+use Rattle.plan.specs.declared.Upload.{Upload}
+use Rattle.plan.specs.declared.Upload.the-variants.{Idle, Running}
+use Rattle.plan.specs.View.{planOf}
+
+-- 4 and 5 the upload's station, 6 its count, 7 its next number, 8 its last start, 9 its repeats
+unfoldable pub pokedRun : Run → (field value : ℕ) → Run
+pokedRun r field v =
+    record {
+      system = cond (eqb field 4) (v % 256) (r .system);
+      component = cond (eqb field 5) (v % 256) (r .component);
+      count = cond (eqb field 6) (v % 65536) (r .count);
+      next = cond (eqb field 7) (v % 65536) (r .next);
+      started = cond (eqb field 8) v (r .started);
+      repeats = cond (eqb field 9) (v % 256) (r .repeats);
+    }
+
+-- 3 whether an upload runs: one that starts has zeros, one that runs keeps its numbers
+unfoldable pub pokedUpload : Upload → (field value : ℕ) → Upload
+pokedUpload Idle field v = cond (eqb field 3 && not (eqb v 0)) (Running (record { system = 0; component = 0; count = 0; next = 0; started = 0; repeats = 0 })) Idle
+pokedUpload (Running r) field v = cond (eqb field 3 && eqb v 0) Idle (Running (pokedRun r field v))
+
+-- 0 the plan's length, 1 its number, 2 its half
+unfoldable pub pokedPlan : Plan → (field value : ℕ) → Plan
+pokedPlan p field v =
+    record {
+      len = cond (eqb field 0) (v % 65536) (p .len);
+      half = cond (eqb field 2) (eqb (v % 2) 1) (p .half);
+      number = cond (eqb field 1) v (p .number);
+      upload = pokedUpload (p .upload) field v;
+    }
+
+-- of a plan the index is the kind; 255 is no field
+unfoldable pub fieldFor : (kind index field : ℕ) → ℕ
+fieldFor kind index field = cond (eqb index kind) field 255
+
+-- 12 a jump count
+unfoldable pub pokedCounts : List ℕ → (field index value : ℕ) → List ℕ
+pokedCounts counts field index v = cond (eqb field 12 && ltb index maxJumps) (set counts index (v % 65536)) counts
+
+-- 10 the current item, 11 whether it is begun
+unfoldable pub pokedState : State → (field index value : ℕ) → State
+pokedState st field index v =
+    record {
+      plans =
+          pokedPlan (planOf st 0) (fieldFor 0 index field) v
+          ∷ pokedPlan (planOf st 1) (fieldFor 1 index field) v
+          ∷ pokedPlan (planOf st 2) (fieldFor 2 index field) v
+          ∷ [];
+      current = cond (eqb field 10) (v % 65536) (st .current);
+      begun = cond (eqb field 11) (not (eqb v 0)) (st .begun);
+      counts = pokedCounts (st .counts) field index v;
+    }
+
+-- bytes in the place of as many from a place on, where all of them fit
+unfoldable pub written : Bytes → (at : ℕ) → Bytes → Bytes
+written store at bytes = cond (leb (at + length bytes) (length store)) (take at store ++ (bytes ++ drop (at + length bytes) store)) store

@@ -1,0 +1,139 @@
+// What a host does between the calls: it sets a number of the state, or writes bytes into the store.
+ghost use Prim.Native.Nat.{_%_};
+ghost use mathlib.Core.Path.{_≡_};
+ghost use mathlib.Core.Bool.{cond};
+ghost use Rattle.host.specs.Pokes.{fieldFor, pokedRun, pokedUpload, pokedPlan, pokedCounts, pokedState, written};
+use limits::JUMP_COUNTS;
+use plan::Plan;
+use plan::Run;
+use plan::State;
+use plan::Upload;
+
+// No field of a plan.
+const NO_FIELD: u8 = 255;
+
+fn set8(test: bool, value: u32, old: u8) -> u8
+    ensures { λ r. ⌜ r ≡ cond test (value % 256) old ⌝ }
+{
+    if test { (value % 256) as u8 } else { old }
+}
+
+fn set16(test: bool, value: u32, old: u16) -> u16
+    ensures { λ r. ⌜ r ≡ cond test (value % 65536) old ⌝ }
+{
+    if test { (value % 65536) as u16 } else { old }
+}
+
+fn set32(test: bool, value: u32, old: u32) -> u32
+    ensures { λ r. ⌜ r ≡ cond test value old ⌝ }
+{
+    if test { value } else { old }
+}
+
+fn set_flag(test: bool, value: bool, old: bool) -> bool
+    ensures { λ r. ⌜ r ≡ cond test value old ⌝ }
+{
+    if test { value } else { old }
+}
+
+fn poked_run(run: Run, field: u8, value: u32) -> Run
+    ensures { λ r. ⌜ r ≡ pokedRun run field value ⌝ }
+{
+    Run {
+        system: set8(field == 4, value, run.system),
+        component: set8(field == 5, value, run.component),
+        count: set16(field == 6, value, run.count),
+        next: set16(field == 7, value, run.next),
+        started: set32(field == 8, value, run.started),
+        repeats: set8(field == 9, value, run.repeats),
+    }
+}
+
+// An upload that starts has zeros; one that runs keeps its numbers.
+fn poked_upload(upload: Upload, field: u8, value: u32) -> Upload
+    ensures { λ r. ⌜ r ≡ pokedUpload upload field value ⌝ }
+{
+    match upload {
+        Upload::Idle => {
+            if (field == 3) & (value != 0) {
+                return Upload::Running(Run {
+                    system: 0,
+                    component: 0,
+                    count: 0,
+                    next: 0,
+                    started: 0,
+                    repeats: 0,
+                });
+            }
+            Upload::Idle
+        }
+        Upload::Running(run) => {
+            if (field == 3) & (value == 0) {
+                return Upload::Idle;
+            }
+            Upload::Running(poked_run(run, field, value))
+        }
+    }
+}
+
+fn poked_plan(plan: Plan, field: u8, value: u32) -> Plan
+    ensures { λ r. ⌜ r ≡ pokedPlan plan field value ⌝ }
+{
+    let before = plan.upload;
+    let upload = poked_upload(before, field, value);
+    Plan {
+        len: set16(field == 0, value, plan.len),
+        half: set_flag(field == 2, value % 2 == 1, plan.half),
+        number: set32(field == 1, value, plan.number),
+        upload,
+    }
+}
+
+// The field that is set of a kind's plan, where the index is a kind.
+fn field_for(kind: u8, index: u8, field: u8) -> u8
+    ensures { λ r. ⌜ r ≡ fieldFor kind index field ⌝ }
+{
+    if index == kind { field } else { NO_FIELD }
+}
+
+fn poked_counts(counts: [u16; JUMP_COUNTS], field: u8, index: u8, value: u32) -> [u16; JUMP_COUNTS]
+    ensures { λ r. ⌜ r ≡ pokedCounts counts field index value ⌝ }
+{
+    let i = index as usize;
+    if (field == 12) & (i < JUMP_COUNTS) {
+        let mut after = counts;
+        after[i] = (value % 65536) as u16;
+        return after;
+    }
+    counts
+}
+
+// The state with one number set; a value is cut to the number's width.
+pub fn poked(state: State, field: u8, index: u8, value: u32) -> State
+    ensures { λ r. ⌜ r ≡ pokedState state field index value ⌝ }
+{
+    let plans = state.plans;
+    let flight = poked_plan(plans[0], field_for(0, index, field), value);
+    let fence = poked_plan(plans[1], field_for(1, index, field), value);
+    let rally = poked_plan(plans[2], field_for(2, index, field), value);
+    let counts = state.counts;
+    State {
+        plans: [flight, fence, rally],
+        current: set16(field == 10, value, state.current),
+        begun: set_flag(field == 11, value != 0, state.begun),
+        counts: poked_counts(counts, field, index, value),
+    }
+}
+
+// Bytes go into the store from a place on, where all of them fit.
+pub fn write(store: &mut [u8], at: usize, payload: &[u8])
+    ensures { λ _. ⌜ now (store .exit) ≡ written (now (store .entry)) at (now (payload .entry)) ⌝ }
+{
+    if store.len() < at {
+        return;
+    }
+    if store.len() - at < payload.len() {
+        return;
+    }
+    bytes::copy(payload, &mut store[at..]);
+}
