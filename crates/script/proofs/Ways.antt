@@ -1,14 +1,15 @@
 -- What stands next, for each way that the tests can go.
-use Prim.Native.Nat.{ℕ, _+_, _<_, _≤_}
-use mathlib.Core.Path.{_≡_}
+use Prim.Native.Nat.{ℕ, _+_, _-_, _<_, _≤_}
+use mathlib.Core.Path.{_≡_, refl, sym, _∙_}
 use mathlib.Core.Bool.{Bool, true, false, not}
 use native.Mathlib.Omega.{arith}
+use lib.Dec.{leb}
 use lib.ListN.{length}
-use borrow.Author.Tests.{eq-eqb, ne-eqb, lt-ltb, le-ltb}
+use borrow.Author.Tests.{eq-eqb, ne-eqb, lt-ltb, le-ltb, leb-true, leb-false, le-leb, lt-leb}
 use Rattle.rules.specs.Payload.{Bytes}
 use Rattle.script.specs.declared.Record.{Record}
 use Rattle.script.specs.declared.Next.the-variants.{Play, End, Cut, Bad}
-use Rattle.script.specs.Records.{recordIn, fits, nextIn}
+use Rattle.script.specs.Records.{recordIn, writeFits, fits, nextIn}
 
 module _ (p : Bytes) where
   pub ends : length p ≡ 0 → End ≡ nextIn p
@@ -30,13 +31,28 @@ module _ (p : Bytes) where
         unfolding nextIn
         bad h = rw (ne-eqb (length p) 0 some, le-ltb (length p) 24 whole, ← is, ne-eqb (r .kind) 0 other, ← tests, h)
 
-        module _ (h : not test ≡ false) (len : ℕ) (size : len ≡ r .len) where
-          pub cuts-payload : length p < 24 + len → Cut ≡ nextIn p
+        module _ (h : not test ≡ false) where
+          pub cuts-payload : length p - 24 < r .len → Cut ≡ nextIn p
           unfolding nextIn
           cuts-payload short =
               rw (ne-eqb (length p) 0 some, le-ltb (length p) 24 whole, ← is, ne-eqb (r .kind) 0 other, ← tests, h, lt-ltb (length p) (24 + r .len) (omega arith))
 
-          pub plays : 24 + len ≤ length p → Play r ≡ nextIn p
+          pub plays : r .len ≤ length p - 24 → Play r ≡ nextIn p
           unfolding nextIn
           plays long =
               rw (ne-eqb (length p) 0 some, le-ltb (length p) 24 whole, ← is, ne-eqb (r .kind) 0 other, ← tests, h, le-ltb (length p) (24 + r .len) (omega arith))
+
+-- the test of a write
+
+module _ (at len : ℕ) where
+  pub too-long : 300 < len → false ≡ writeFits at len
+  unfolding writeFits
+  too-long h = rw (lt-leb len 300 h)
+
+  pub place-fits : (n : ℕ) → n ≡ at → len ≤ 300 → leb n (26880 - len) ≡ writeFits at len
+  unfolding writeFits
+  place-fits n is h = rw (is, le-leb len 300 h) (go (leb at (26880 - len)) refl)
+    where
+      go : (t : Bool) → leb at (26880 - len) ≡ t → leb at (26880 - len) ≡ leb (at + len) 26880
+      go true e = e ∙ sym (le-leb (at + len) 26880 (omega (arith, leb-true at (26880 - len) e)))
+      go false e = e ∙ sym (lt-leb (at + len) 26880 (omega (arith, leb-false at (26880 - len) e)))

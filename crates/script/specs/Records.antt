@@ -32,7 +32,7 @@ pokeFits field index = leb field 9 && ltb index 3 || (eqb field 10 || eqb field 
 
 -- WRITE: up to the end of the store array
 unfoldable pub writeFits : (at len : ℕ) → Bool
-writeFits at len = leb (at + len) 26880
+writeFits at len = leb len 300 && leb (at + len) 26880
 
 -- MESSAGE 1, TIMER 2, DONE 3, DUMP 4, SNAP 6 and CMP 7; FRESH 5 without a setting; POKE 8; WRITE 9. "len above 300, store above 26,880,
 -- reply above 64 .. the program stops"

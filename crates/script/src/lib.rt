@@ -30,7 +30,7 @@ pub const WRITE: u8 = 9;
 
 pub const HEADER_BYTES: usize = 24;
 
-pub const MOST_PAYLOAD: u16 = 300;
+pub const MOST_PAYLOAD: usize = 300;
 
 // The lengths of the arrays that a script's calls are lent.
 pub const STORE_ARRAY: usize = 26880;
@@ -45,11 +45,11 @@ pub struct Record {
     pub b2: u8,
     pub b3: u8,
     pub b4: u8,
-    pub len: u16,
+    pub len: usize,
     pub a: u32,
     pub clock: u32,
-    pub store: u32,
-    pub reply: u32,
+    pub store: usize,
+    pub reply: usize,
 }
 
 // What stands next in a script: a record whose payload follows its header, the end, a record that the end of input cuts, or one that cannot
@@ -59,6 +59,18 @@ pub enum Next {
     End,
     Cut,
     Bad(u8),
+}
+
+fn size(n: u32) -> usize
+    ensures { λ r. ⌜ r ≡ n ⌝ }
+{
+    n as usize
+}
+
+fn payload_size(n: u16) -> usize
+    ensures { λ r. ⌜ r ≡ n ⌝ }
+{
+    n as usize
 }
 
 fn record_in(bytes: &[u8]) -> Record
@@ -71,11 +83,11 @@ fn record_in(bytes: &[u8]) -> Record
         b2: byte_at(bytes, 3),
         b3: byte_at(bytes, 4),
         b4: byte_at(bytes, 5),
-        len: u16_at(bytes, 6),
+        len: payload_size(u16_at(bytes, 6)),
         a: u32_at(bytes, 8),
         clock: u32_at(bytes, 12),
-        store: u32_at(bytes, 16),
-        reply: u32_at(bytes, 20),
+        store: size(u32_at(bytes, 16)),
+        reply: size(u32_at(bytes, 20)),
     }
 }
 
@@ -88,24 +100,14 @@ fn poke_fits(field: u8, index: u8) -> bool
         | (field == 12) & ((index as usize) < JUMP_COUNTS)
 }
 
-// A length as a number of bytes.
-pub fn size(n: u32) -> usize
-    ensures { λ r. ⌜ r ≡ n ⌝ }
-{
-    n as usize
-}
-
-fn payload_size(n: u16) -> usize
-    ensures { λ r. ⌜ r ≡ n ⌝ }
-{
-    n as usize
-}
-
 // Whether a payload fits the store array from a place on.
-fn write_fits(at: u32, len: u16) -> bool
+fn write_fits(at: u32, len: usize) -> bool
     ensures { λ r. ⌜ r ≡ writeFits at len ⌝ }
 {
-    size(at) + payload_size(len) <= STORE_ARRAY
+    if MOST_PAYLOAD < len {
+        return false;
+    }
+    size(at) <= STORE_ARRAY - len
 }
 
 // Whether a record can be played.
@@ -116,10 +118,7 @@ fn fits(r: Record) -> bool
         | (r.kind == FRESH) & (r.b4 == 0)
         | (r.kind == POKE) & poke_fits(r.b4, r.b0)
         | (r.kind == WRITE) & write_fits(r.a, r.len);
-    known
-        & (r.len <= MOST_PAYLOAD)
-        & (size(r.store) <= STORE_ARRAY)
-        & (size(r.reply) <= REPLY_ARRAY)
+    known & (r.len <= MOST_PAYLOAD) & (r.store <= STORE_ARRAY) & (r.reply <= REPLY_ARRAY)
 }
 
 pub fn next_record(bytes: &[u8]) -> Next
@@ -138,7 +137,7 @@ pub fn next_record(bytes: &[u8]) -> Next
     if !fits(r) {
         return Next::Bad(r.kind);
     }
-    if bytes.len() < HEADER_BYTES + payload_size(r.len) {
+    if bytes.len() - HEADER_BYTES < r.len {
         return Next::Cut;
     }
     Next::Play(r)

@@ -1,14 +1,14 @@
--- The loop's measure is the count of turns left.
+-- `console::main` meets its contract. The loop's measure is the count of turns left.
 use borrow.Author.Needs.{needs}
 use Rattle.console.proofs.main.Statement.{statement}
 use Rattle.console.proofs.main.Tie as tie
 
 abbrev Inv-loop : tie.InvT-loop
-Inv-loop bytes₀ out₀ store₀ copy₀ state₀ source₀ at₀ turns₀ bytes out store copy state source at turns =
+Inv-loop input₀ out₀ store₀ copy₀ state₀ unread₀ at₀ turns₀ input out store copy state unread at turns =
     Unit {0}
 
 abbrev μ-loop : tie.MeasureT-loop
-μ-loop bytes₀ out₀ store₀ copy₀ state₀ source₀ at₀ turns₀ bytes out store copy state source at turns =
+μ-loop input₀ out₀ store₀ copy₀ state₀ unread₀ at₀ turns₀ input out store copy state unread at turns =
     turns
 
 fresh-requires : tie.Need-fresh-requires Inv-loop μ-loop
@@ -29,8 +29,8 @@ loop-less c = search needs
 loop-again : tie.Need-loop-again Inv-loop μ-loop
 loop-again c = tt
 
-flush-requires : tie.Need-flush-requires Inv-loop μ-loop
-flush-requires c κs = tt
+finish-requires : tie.Need-finish-requires Inv-loop μ-loop
+finish-requires c κs = tt
 
 returns : tie.Need-returns Inv-loop μ-loop
 returns c = tt
@@ -47,5 +47,5 @@ main-spec =
     sub-turns
     loop-less
     loop-again
-    flush-requires
+    finish-requires
     returns)

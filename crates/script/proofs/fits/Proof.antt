@@ -10,17 +10,9 @@ poke-fits-requires c κs = search needs
 write-fits-requires : tie.Need-write-fits-requires
 write-fits-requires c κs = search needs
 
-size-requires : tie.Need-size-requires
-size-requires c κs = search needs
-
-size-requires-2 : tie.Need-size-requires-2
-size-requires-2 c κs = search needs
-
 returns : tie.Need-returns
 unfolding fits
 returns c = cc
 
 pub fits-spec : {M : Type 1} → statement M
-fits-spec =
-    tie.close
-    (tie.spec poke-fits-requires write-fits-requires size-requires size-requires-2 returns)
+fits-spec = tie.close (tie.spec poke-fits-requires write-fits-requires returns)

@@ -23,20 +23,18 @@ fits-requires c κs = search needs
 returns-4 : tie.Need-returns-4
 returns-4 c = search (bad, needs)
 
-payload-size-requires : tie.Need-payload-size-requires
-payload-size-requires c κs = search needs
-
-add-if5 : tie.Need-add-if5
-add-if5 c = search needs
+sub-if5 : tie.Need-sub-if5
+sub-if5 c = search needs
 
 returns-5 : tie.Need-returns-5
 returns-5 c = search (cuts-payload, needs)
 
 returns-6 : tie.Need-returns-6
 returns-6 c =
-    let f = c .before .before .before in
+    let i = c .before .before in
+    let f = i .before in
     let r = f .before .before .before in
-    plays (now (r .before .before .before .before .args .bytes)) (r .before .before .if1 .left) (r .before .if2 .left) (r .record-in .result) (r .record-in .ensures) (f .before .if3 .left) (f .fits2 .result) (f .fits2 .ensures) (c .before .before .if4 .left) (c .before .payload-size .result) (c .before .payload-size .ensures) (c .if5 .left)
+    plays (now (r .before .before .before .before .args .bytes)) (r .before .before .if1 .left) (r .before .if2 .left) (r .record-in .result) (r .record-in .ensures) (f .before .if3 .left) (f .fits2 .result) (f .fits2 .ensures) (i .if4 .left) (c .if5 .left)
 
 pub next-record-spec : {M : Type 1} → statement M
 next-record-spec =
@@ -48,7 +46,6 @@ next-record-spec =
     returns-3
     fits-requires
     returns-4
-    payload-size-requires
-    add-if5
+    sub-if5
     returns-5
     returns-6)

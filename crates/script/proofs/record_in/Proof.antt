@@ -25,6 +25,9 @@ byte-at-requires-6 c κs = search needs
 u16-at-requires : tie.Need-u16-at-requires
 u16-at-requires c κs = search needs
 
+payload-size-requires : tie.Need-payload-size-requires
+payload-size-requires c κs = search needs
+
 u32-at-requires : tie.Need-u32-at-requires
 u32-at-requires c κs = search needs
 
@@ -34,8 +37,14 @@ u32-at-requires-2 c κs = search needs
 u32-at-requires-3 : tie.Need-u32-at-requires-3
 u32-at-requires-3 c κs = search needs
 
+size-requires : tie.Need-size-requires
+size-requires c κs = search needs
+
 u32-at-requires-4 : tie.Need-u32-at-requires-4
 u32-at-requires-4 c κs = search needs
+
+size-requires-2 : tie.Need-size-requires-2
+size-requires-2 c κs = search needs
 
 returns : tie.Need-returns
 unfolding recordIn
@@ -52,8 +61,11 @@ record-in-spec =
     byte-at-requires-5
     byte-at-requires-6
     u16-at-requires
+    payload-size-requires
     u32-at-requires
     u32-at-requires-2
     u32-at-requires-3
+    size-requires
     u32-at-requires-4
+    size-requires-2
     returns)

@@ -1,21 +1,20 @@
--- `script::write_fits` meets its contract: its test is the definition's.
-use Rattle.script.specs.Records.{writeFits}
+-- `script::write_fits` meets its contract, by its tests.
+use Rattle.script.proofs.Ways.{too-long, place-fits}
 use borrow.Author.Needs.{needs}
 use Rattle.script.proofs.write_fits.Statement.{statement}
 use Rattle.script.proofs.write_fits.Tie as tie
 
+returns : tie.Need-returns
+returns c = search (too-long, needs)
+
 size-requires : tie.Need-size-requires
 size-requires c κs = search needs
 
-payload-size-requires : tie.Need-payload-size-requires
-payload-size-requires c κs = search needs
+sub-result : tie.Need-sub-result
+sub-result c = search needs
 
-add-result : tie.Need-add-result
-add-result c = search needs
-
-returns : tie.Need-returns
-unfolding writeFits
-returns c = cc
+returns-2 : tie.Need-returns-2
+returns-2 c = search (place-fits, needs)
 
 pub write-fits-spec : {M : Type 1} → statement M
-write-fits-spec = tie.close (tie.spec size-requires payload-size-requires add-result returns)
+write-fits-spec = tie.close (tie.spec returns size-requires sub-result returns-2)
