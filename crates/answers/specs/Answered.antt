@@ -10,7 +10,8 @@ use Rattle.rules.specs.Messages.{Message, idOf, encode}
 use Rattle.rules.specs.Laws.Layout.{encode-fits}
 use Rattle.rules.specs.Step.{Answer, silent, says, outcomeOf, replyId, replyBytes, ReadsBack}
 use Rattle.plan.specs.declared.State.{State}
-use Rattle.reply.specs.Written.{Trimmed, Wrote}
+use Rattle.trimming.specs.Written.{Trimmed}
+use Rattle.reply.specs.Written.{Wrote}
 use Rattle.states.specs.Whole.{Done}
 use Rattle.answers.specs.declared.Served.{Served}
 use Rattle.answers.specs.declared.say.Said.{Said}
