@@ -6,7 +6,7 @@ ghost use lib.ListN.{length};
 ghost use Rattle.rules.specs.Limits.{flight, rally, storeBytes, replyBytesMin};
 ghost use Rattle.rules.specs.Payload.{Bytes};
 ghost use Rattle.rules.specs.Messages.{station};
-ghost use Rattle.plan.specs.Ranges.{stateRanged};
+ghost use Rattle.ranges.specs.Ranges.{stateRanged};
 ghost use Rattle.rules.specs.Step.{currentField};
 ghost use Rattle.states.specs.Whole.{listDone, requestDone, chooseDone};
 ghost use Rattle.answers.specs.Answered.{AnsweredBy};

@@ -10,12 +10,12 @@ use limits::FLIGHT;
 use limits::ITEM_BYTES;
 use limits::JUMP_COUNTS;
 use limits::RALLY;
+use places::place_at;
 use plan::Plan;
 use plan::Run;
 use plan::State;
 use plan::Upload;
 use plan::number_shown;
-use plan::places::place_at;
 
 // The line of the item with a number: its 38 bytes.
 fn item_line(
@@ -140,7 +140,7 @@ fn current_line(out: &mut [u8; 8192], at: usize, state: State) -> usize {
 
 // The whole dump; outcome 15 alone where a number of the state is out of its range.
 pub fn dump(out: &mut [u8; 8192], at: usize, state: State, store: &[u8]) -> usize {
-    if !plan::ranges::ranged(state) {
+    if !ranges::ranged(state) {
         return put(out, at, b"D 15\n");
     }
     let at = put(out, at, b"D 0\n");

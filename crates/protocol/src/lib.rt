@@ -8,7 +8,7 @@ ghost use Rattle.rules.specs.Payload.{Bytes};
 ghost use Rattle.rules.specs.Messages.{station, decode};
 ghost use Rattle.rules.specs.Step.{kindOk};
 ghost use Rattle.message_table.specs.Table.{isRead, kindOf};
-ghost use Rattle.plan.specs.Ranges.{stateRanged};
+ghost use Rattle.ranges.specs.Ranges.{stateRanged};
 ghost use Rattle.refusal.specs.Refusals.{requestOf};
 ghost use Rattle.states.specs.Whole.{messageDone};
 ghost use Rattle.answers.specs.Answered.{Handled};

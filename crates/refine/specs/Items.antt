@@ -26,8 +26,8 @@ use Rattle.plan.specs.declared.Plan.{Plan}
 use Rattle.plan.specs.declared.Run.{Run}
 use Rattle.plan.specs.declared.Upload.{Upload}
 use Rattle.plan.specs.declared.Upload.the-variants.{Idle, Running}
-use Rattle.plan.specs.Places.{itemsIn, length-items}
-use Rattle.plan.specs.Writes.{putAt, Apart, otherHalf, otherKind, beyond, items-apart, items-more}
+use Rattle.places.specs.Places.{itemsIn, length-items}
+use Rattle.places.specs.Writes.{putAt, Apart, otherHalf, otherKind, beyond, items-apart, items-more}
 use Rattle.plan.specs.View.{planOf, planIn, runIn, uploadIn, view, stationIn}
 use Rattle.upload.specs.declared.Say.{Say}
 use Rattle.upload.specs.declared.Say.the-variants.{Ack, Ask}

@@ -19,7 +19,7 @@ use Rattle.rules.specs.Laws.Kinds.{covered-known}
 use Rattle.plan.specs.declared.State.{State}
 use Rattle.plan.specs.declared.Plan.{Plan}
 use Rattle.plan.specs.declared.Upload.{Upload}
-use Rattle.plan.specs.Places.{itemAt, items-at}
+use Rattle.places.specs.Places.{itemAt, items-at}
 use Rattle.plan.specs.View.{emptyPlan, planOf, view}
 use Rattle.upload.specs.declared.Say.the-variants.{Silent}
 use Rattle.upload.specs.declared.Turned.{Turned}

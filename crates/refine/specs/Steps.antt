@@ -26,9 +26,9 @@ use Rattle.plan.specs.declared.Plan.{Plan}
 use Rattle.plan.specs.declared.Run.{Run}
 use Rattle.plan.specs.declared.Upload.{Upload}
 use Rattle.plan.specs.declared.Upload.the-variants.{Idle, Running}
-use Rattle.plan.specs.Part.{getD-put-before, getD-put-after}
-use Rattle.plan.specs.Places.{itemsIn, offsetOf, offset-within}
-use Rattle.plan.specs.Writes.{length-stays}
+use Rattle.places.specs.Part.{getD-put-before, getD-put-after}
+use Rattle.places.specs.Places.{itemsIn, offsetOf, offset-within}
+use Rattle.places.specs.Writes.{length-stays}
 use Rattle.plan.specs.View.{emptyPlan, planOf, view, stationIn}
 use Rattle.upload.specs.declared.Say.the-variants.{Silent}
 use Rattle.upload.specs.declared.Turned.{Turned}

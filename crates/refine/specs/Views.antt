@@ -16,7 +16,7 @@ use Rattle.rules.specs.Laws.Lists.{at-set}
 use Rattle.plan.specs.declared.State.{State}
 use Rattle.plan.specs.declared.Plan.{Plan}
 use Rattle.plan.specs.declared.Upload.{Upload}
-use Rattle.plan.specs.Places.{length-items}
+use Rattle.places.specs.Places.{length-items}
 use Rattle.plan.specs.View.{emptyPlan, planOf, planIn, uploadIn, view}
 use Rattle.upload.specs.declared.Say.{Say}
 use Rattle.upload.specs.declared.Turned.{Turned}

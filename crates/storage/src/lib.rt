@@ -5,12 +5,12 @@ ghost use lib.ListN.{length};
 ghost use Rattle.rules.specs.Limits.{rally, sizeOf, storeBytes};
 ghost use Rattle.rules.specs.Messages.{itemIn, itemOf};
 ghost use Rattle.item.specs.Patterns.{itemFor, patterns};
-ghost use Rattle.plan.specs.Places.{itemAt};
-ghost use Rattle.plan.specs.Writes.{putAt};
+ghost use Rattle.places.specs.Places.{itemAt};
+ghost use Rattle.places.specs.Writes.{putAt};
 use item::Item;
 use limits::ITEM_BYTES;
-use plan::items::put_item;
-use plan::places::place_at;
+use places::place_at;
+use places::put_item;
 
 // The address and the current field of a stored item.
 const NOBODY: u8 = 0;

@@ -14,14 +14,14 @@ use Rattle.rules.specs.Step.{says, currentField}
 use Rattle.item.specs.declared.Item.{Item}
 use Rattle.item.specs.Patterns.{patterns, itemFor, patterns-of}
 use Rattle.plan.specs.declared.State.{State}
-use Rattle.plan.specs.Places.{itemAt}
+use Rattle.places.specs.Places.{itemAt}
 use Rattle.plan.specs.View.{planOf}
-use Rattle.plan.specs.Ranges.{stateRanged}
+use Rattle.ranges.specs.Ranges.{stateRanged}
 use Rattle.reply.specs.Written.{Wrote}
 use Rattle.states.specs.Whole.{requestDone}
 use Rattle.answers.specs.declared.say.Said.{Said}
 use Rattle.answers.specs.Answered.{Spoken, AnsweredBy, served, written-answered, spoken-answered}
-use Rattle.plan.specs.Ranged.{plan-ranges}
+use Rattle.ranges.specs.Ranged.{plan-ranges}
 use Rattle.answers.proofs.show.on_request.Statement.{statement}
 use Rattle.answers.proofs.show.on_request.Tie as tie
 
