@@ -47,7 +47,7 @@ fn result_of(store: &[u8], kind: u8, half: bool, run: Run, item: Item) -> u8
     ensures { λ r. ⌜ r ≡ fault kind (run .count) (run .next) (jumpsAmong (itemsIn (now (store .entry)) half kind (run .next))) (patterns item) ⌝ }
 {
     let before = jumps(store, kind, half, run.next);
-    item::verdict(item, kind, run.count, run.next, before)
+    item_rules::verdict(item, kind, run.count, run.next, before)
 }
 
 // The judgement in a running upload.

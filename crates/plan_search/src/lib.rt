@@ -91,7 +91,7 @@ fn look_at(store: &[u8], half: bool, len: u16, counts: [u16; JUMP_COUNTS], n: u1
     ensures { λ r. ⌜ r ≡ lookAs len counts n j (itemIn (itemAt (now (store .entry)) half flight n)) ⌝ }
 {
     let item = storage::fetch(store, FLIGHT, half, n);
-    if item::verdict(item, FLIGHT, len, n, j) != ACCEPTED {
+    if item_rules::verdict(item, FLIGHT, len, n, j) != ACCEPTED {
         return Look::Meets(Met::Ends(Command::Stuck));
     }
     if !item::is_jump(item) {
