@@ -8,7 +8,7 @@ use native.Mathlib.Omega.{arith}
 use Rattle.rules.specs.Limits.{accepted, invalid, invalidSequence, denied, maxRepeats}
 use Rattle.rules.specs.Payload.{Bytes}
 use Rattle.rules.specs.Messages.{Station, Item, sameStation}
-use Rattle.rules.specs.Laws.Tests.{both}
+use Rattle.rule_laws.specs.Tests.{both}
 use Rattle.plan.specs.declared.Plan.{Plan}
 use Rattle.plan.specs.declared.Run.{Run}
 use Rattle.plan.specs.declared.Upload.{Upload}

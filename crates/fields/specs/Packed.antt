@@ -5,7 +5,7 @@ use mathlib.Core.List.{[], _∷_}
 use native.Mathlib.Nat.{mod-eq-of-lt}
 use Rattle.rules.specs.Payload.{Bytes, bytesOf}
 use Rattle.rules.specs.Messages.{Message, encode}
-use Rattle.rules.specs.Fitting.{Fits}
+use Rattle.rule_laws.specs.Fitting.{Fits}
 
 -- the bytes of a message, all of them, and that its numbers fit their fields
 pub record BytesOf (m : Message) (bytes : Bytes) : Type 0 where

@@ -6,7 +6,7 @@ use native.Mathlib.Omega.{arith}
 use lib.ListN.{length, getD}
 use Rattle.rules.specs.Payload.{bytesOf}
 use Rattle.rules.specs.Layouts.{Field, chars, pack}
-use Rattle.rules.specs.Laws.Layout.{FitFields}
+use Rattle.rule_laws.specs.Layout.{FitFields}
 use Rattle.fields.specs.Packed.{one-byte}
 
 -- the characters of a text are its own bytes

@@ -11,7 +11,7 @@ use Rattle.rules.specs.Messages.{Item}
 use Rattle.rules.specs.Values.{float, Whole, integer, notWhole, wholeOf, wholeFrom, wholeNumber}
 use Rattle.rules.specs.Items.{Row, isTarget, isWhole, jump, setServo, isJump, targetIn, paramOk, frameOk, placeFault, roomFault, faultIn, faultAmong, fault}
 use Rattle.rules.specs.NextCommand.{repeatOf}
-use Rattle.rules.specs.Laws.Tests.{both}
+use Rattle.rule_laws.specs.Tests.{both}
 
 -- no fault among frame, param 1 and param 2
 passes : (frame one two : Bool) (rest : ℕ) → cond (not frame) 2 (cond (not one) 6 (cond (not two) 7 rest)) ≡ 0 → (one ≡ true) × (two ≡ true) × (rest ≡ 0)

@@ -8,7 +8,7 @@ use borrow.Author.Tests.{eqb-true}
 use Rattle.rules.specs.Payload.{Bytes}
 use Rattle.rules.specs.Layouts.{setCurrentId, currentId, requestListId, countId, clearAllId, ackId, requestIntId, itemIntId, statustextId}
 use Rattle.rules.specs.Messages.{Message, messageOf, decode}
-use Rattle.rules.specs.Laws.Tests.{either}
+use Rattle.rule_laws.specs.Tests.{either}
 use Rattle.rules.specs.Calls.{isKnown}
 use Rattle.rules.specs.Step.{kindOk}
 use Rattle.message_table.specs.Table.{isRead}

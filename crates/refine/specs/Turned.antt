@@ -12,7 +12,7 @@ use Rattle.rules.specs.Model as model
 use Rattle.rules.specs.Model.{idle, running, elapsed, isOthers, isOwn, withPlan}
 use Rattle.rules.specs.Calls.{isKnown}
 use Rattle.rules.specs.Step.{Stepped, Answer, silent, acks, requests, onCount, onAck, onTimer}
-use Rattle.rules.specs.Laws.Tests.{either₂}
+use Rattle.rule_laws.specs.Tests.{either₂}
 use Rattle.plan.specs.declared.State.{State}
 use Rattle.plan.specs.declared.Plan.{Plan}
 use Rattle.plan.specs.declared.Run.{Run}

@@ -7,9 +7,9 @@ use lib.ListN.{length, take, drop}
 use lib.Seq.{take-at}
 use Rattle.rules.specs.Payload.{Bytes, trim}
 use Rattle.rules.specs.Layouts.{layoutOf}
-use Rattle.rules.specs.Laws.Layout.{length-encode}
+use Rattle.rule_laws.specs.Layout.{length-encode}
 use Rattle.rules.specs.Messages.{Message, idOf, encode, decode}
-use Rattle.rules.specs.ReadBack.{reads-back}
+use Rattle.rule_laws.specs.ReadBack.{reads-back}
 use Rattle.fields.specs.Packed.{BytesOf}
 use Rattle.trimming.specs.Written.{Written}
 use Rattle.reply.specs.Written.{Wrote}

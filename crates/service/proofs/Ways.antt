@@ -13,7 +13,7 @@ use Rattle.rules.specs.Model.{inRange}
 use Rattle.rules.specs.NextCommand as rules
 use Rattle.rules.specs.Calls.{message, timer, done, heard}
 use Rattle.rules.specs.Step.{orders, commandIn, onMessage, onTimer}
-use Rattle.rules.specs.Laws.Refused.{plain-stuck, message-plain, timer-plain}
+use Rattle.rule_laws.specs.Refused.{plain-stuck, message-plain, timer-plain}
 use Rattle.message_table.specs.Table.{isRead, kindOf}
 use Rattle.plan.specs.declared.State.{State}
 use Rattle.plan.specs.View.{view}

@@ -11,7 +11,7 @@ use Rattle.plan.specs.declared.Plan.{Plan}
 use Rattle.plan.specs.declared.Run.{Run}
 use Rattle.ranges.specs.Ranges.{uploadRanged}
 use Rattle.places.specs.Writes.{putAt, length-stays}
-use Rattle.rules.specs.Laws.Layout.{length-itemOf}
+use Rattle.rule_laws.specs.Layout.{length-itemOf}
 use Rattle.upload.specs.declared.Say.the-variants.{Ack, Ask}
 use Rattle.upload.specs.declared.Turned.{Turned}
 use Rattle.upload.specs.Turns.{ended, keeps, TurnAndStore, turnWith, stored, validItemTurned, itemTurned}

@@ -3,7 +3,7 @@ use Prim.Native.Nat.{_<_}
 use mathlib.Core.List.{[], _++_}
 use Rattle.rules.specs.Layouts.{layoutOf, pack}
 use Rattle.rules.specs.Messages.{station, itemInt, encode}
-use Rattle.rules.specs.Fitting.{Fits}
+use Rattle.rule_laws.specs.Fitting.{Fits}
 use Rattle.item.specs.Patterns.{patterns}
 use Rattle.fields.specs.Packed.{one-byte}
 use borrow.Author.Needs.{needs}

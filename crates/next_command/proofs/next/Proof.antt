@@ -10,7 +10,7 @@ use Rattle.rules.specs.Limits.{flight, fence, rally, sizeOf, maxFollowed}
 use Rattle.rules.specs.Payload.{Bytes}
 use Rattle.rules.specs.Model.{inRange}
 use Rattle.rules.specs.NextCommand as rules
-use Rattle.rules.specs.Laws.Tests.{both}
+use Rattle.rule_laws.specs.Tests.{both}
 use Rattle.plan.specs.declared.State.{State}
 use Rattle.places.specs.Places.{itemsIn}
 use Rattle.plan.specs.View.{view, planOf}

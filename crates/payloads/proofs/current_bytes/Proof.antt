@@ -2,7 +2,7 @@
 use mathlib.Core.List.{[], _++_}
 use Rattle.rules.specs.Layouts.{layoutOf, pack}
 use Rattle.rules.specs.Messages.{encode}
-use Rattle.rules.specs.Fitting.{Fits}
+use Rattle.rule_laws.specs.Fitting.{Fits}
 use Rattle.wire.specs.Structs.{currentMessage}
 use Rattle.fields.specs.Packed.{one-byte}
 use borrow.Author.Needs.{needs}

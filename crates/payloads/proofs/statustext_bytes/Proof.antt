@@ -11,7 +11,7 @@ use mir.Syntax.{w8}
 use Rattle.rules.specs.Payload.{bytesOf}
 use Rattle.rules.specs.Layouts.{u8, u16, layoutOf, pack}
 use Rattle.rules.specs.Messages.{encode}
-use Rattle.rules.specs.Fitting as fitting
+use Rattle.rule_laws.specs.Fitting as fitting
 use Rattle.wire.specs.Structs.{statustextMessage}
 use Rattle.fields.specs.Packed.{one-byte}
 use Rattle.payloads.proofs.Texts.{pack-chars, chars-fit}

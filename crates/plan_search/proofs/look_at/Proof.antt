@@ -15,7 +15,7 @@ use Rattle.rules.specs.Values as values
 use Rattle.rules.specs.Values.{integer, notWhole, float, wholeOf, wholeFrom, wholeNumber}
 use Rattle.rules.specs.Items.{isJump, fault}
 use Rattle.rules.specs.NextCommand.{commandOf, targetOf, repeatOf, passedOver}
-use Rattle.rules.specs.Laws.Tests.{both}
+use Rattle.rule_laws.specs.Tests.{both}
 use Rattle.item.specs.declared.Item.{Item}
 use Rattle.values.specs.declared.Whole.{Whole}
 use Rattle.item.specs.Patterns.{itemFor, patterns, patterns-of, values-of}

@@ -10,7 +10,7 @@ use Rattle.rules.specs.Limits.{flight, rally, everyKind, unsupported}
 use Rattle.rules.specs.Payload.{Bytes}
 use Rattle.rules.specs.Layouts.{setCurrentId, requestListId, countId, clearAllId, ackId, requestIntId, itemIntId}
 use Rattle.rules.specs.Messages.{Station, station, ack, messageOf, decode}
-use Rattle.rules.specs.Laws.Tests.{either}
+use Rattle.rule_laws.specs.Tests.{either}
 use Rattle.rules.specs.Calls.{Request, chooses, asksList, announces, clears, acknowledges, asksItem, brings, isKnown}
 use Rattle.rules.specs.Step.{says, covered, kindOk}
 use Rattle.item.specs.Patterns.{patterns}

@@ -3,7 +3,7 @@ use mathlib.Core.Path.{_≡_, refl}
 use mathlib.Core.Bool.{Bool, true, false, not, _&&_, _||_}
 use lib.Dec.{eqb}
 use Rattle.rules.specs.Items.{frameOk}
-use Rattle.rules.specs.Laws.Tests.{eqb-sym}
+use Rattle.rule_laws.specs.Tests.{eqb-sym}
 use Rattle.item_rules.proofs.checks.frame_ok.Statement.{statement}
 use Rattle.item_rules.proofs.checks.frame_ok.Tie as tie
 
