@@ -1,8 +1,7 @@
-// What a call answers: its outcome and the reply that is written; and the messages that ask for what is shown, or choose among it.
+// What a call answers: its outcome and the reply that is written.
 use plan::State;
 
 pub mod say;
-pub mod show;
 
 // What a call returns beside the store and the reply buffer: the state after it, its outcome, and the reply's id and length.
 pub struct Served {

@@ -14,8 +14,8 @@ use Rattle.rules.specs.Items.{jumpsAmong, fault}
 use Rattle.rules.specs.Model.{Run, Upload, idle, running, Shown, Model, uploadOf, lengthOf, fresh, elapsed, expected, isLast, whole, wholeOk, isOthers, isOwn, put, empty}
 use Rattle.rules.specs.Calls.{Call, message, timer, done, oursOrAll, forUs, heardMessage, heard, Request, chooses, asksList, announces, clears, acknowledges, asksItem, brings, Heard, refuses, request, expiry, commandDone, isKnown}
 use Rattle.rules.specs.Step.{Answer, refused, silent, says, orders, isRefused, Stepped, onCount, onValidItem, onItem, onAck, onClear, anyOthers, covered, onList, onRequest, onSetCurrent, onKnown, kindOk, onMessage, onTimer, act, run}
-use Rattle.rules.specs.Laws.Tests.{either}
-use Rattle.rules.specs.Laws.Refused.{message-answered, timer-answered}
+use Rattle.rule_laws.specs.Tests.{either}
+use Rattle.rule_laws.specs.Refused.{message-answered, timer-answered}
 use Rattle.call_lists.specs.Uploads.{shownBy, answerTo, hears, letIn, Open, Completes, Empties, byCount, byClear, byClearAll, Stroke, uploaded, emptied, chosen, movedOn, nothing}
 use Rattle.call_lists.specs.Laws.Lists.{run-snoc, same-self, same-station}
 use Rattle.call_lists.specs.Laws.Turns.{no, or-left, runOf}

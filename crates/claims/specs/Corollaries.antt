@@ -11,7 +11,7 @@ use Rattle.rules.specs.Messages.{Station, Item, Message, ack, requestInt, itemI
 use Rattle.rules.specs.Model.{Model, fresh, planOf, uploadOf, put}
 use Rattle.rules.specs.Calls.{Call, Request, clears, asksItem, announces, brings, request, expiry, commandDone}
 use Rattle.rules.specs.Step.{Answer, says, ReadsBack, currentField, run, answers}
-use Rattle.rules.specs.Fitting.{CallsFit}
+use Rattle.rule_laws.specs.Fitting.{CallsFit}
 use Rattle.call_lists.specs.Uploads.{hears, answerTo, Open, Completes}
 use Rattle.call_lists.specs.Corollaries as rule
 use Rattle.call_lists.specs.Corollaries.{Says, Spares, since, uploadedItems}

@@ -11,8 +11,8 @@ use Rattle.rules.specs.Payload.{Bytes}
 use Rattle.rules.specs.Model.{inRange}
 use Rattle.rules.specs.Calls.{Call, storeLent, bufferLent}
 use Rattle.rules.specs.Step.{step}
-use Rattle.rules.specs.Fitting.{ModelFits, CallsFit}
-use Rattle.rules.specs.Laws.Fitted.{fresh-fits, step-fits}
+use Rattle.rule_laws.specs.Fitting.{ModelFits, CallsFit}
+use Rattle.rule_laws.specs.Fitted.{fresh-fits, step-fits}
 use Rattle.call_lists.specs.Laws.Ranged.{Formed, fresh-formed}
 use Rattle.call_lists.specs.Laws.Kept.{step-kept}
 use Rattle.plan.specs.declared.State.{State}

@@ -6,7 +6,7 @@ use Rattle.rules.specs.Model.{Model}
 use Rattle.rules.specs.Calls.{Call}
 use Rattle.plan.specs.declared.State.{State}
 use Rattle.plan.specs.View.{view, freshState, fresh-view}
-use Rattle.plan.specs.Ranges.{ranged-view}
+use Rattle.ranges.specs.Ranges.{ranged-view}
 use Rattle.refine.specs.Promise.{Result, halfOf, spare}
 use Rattle.refine.specs.Front.{view-front}
 use Rattle.claims.specs.Demand3 as demand

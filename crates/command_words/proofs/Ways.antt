@@ -10,7 +10,7 @@ use borrow.Author.Tests.{eq-eqb}
 use Rattle.text.specs.Added.{Adds}
 use Rattle.text.specs.Digits.{spaced, hex}
 use Rattle.text.specs.Laws.{adds-both, adds-after}
-use Rattle.next_command.specs.declared.Command.{Command}
+use Rattle.plan_search.specs.declared.Command.{Command}
 use Rattle.command_words.specs.declared.Answer.{Answer}
 use Rattle.command_words.specs.Commands.{highFirst, valueText, commandText, answerText}
 

@@ -7,8 +7,8 @@ use lib.ListN.{take}
 use Rattle.text.specs.Words.{ascii}
 use Rattle.text.specs.Digits.{spaced, hex}
 use Rattle.command_words.specs.declared.Answer.{Answer}
-use Rattle.next_command.specs.declared.Command.{Command}
-use Rattle.next_command.specs.declared.Command.the-variants.{Fly, Wait, Near, Turn, Speed, Servo, Finished, Stuck}
+use Rattle.plan_search.specs.declared.Command.{Command}
+use Rattle.plan_search.specs.declared.Command.the-variants.{Fly, Wait, Near, Turn, Speed, Servo, Finished, Stuck}
 
 -- a value after a space: "8 hex digits, the bit pattern .., highest first". Every NaN is shown as the quiet one without a sign.
 abbrev pub highFirst : ℕ → List ℕ

@@ -6,7 +6,7 @@ ghost use lib.ListN.{take};
 ghost use Rattle.text.specs.Added.{Adds};
 ghost use Rattle.text.specs.Digits.{spaced};
 ghost use Rattle.command_words.specs.Commands.{valueText, answerText, commandText};
-use next_command::Command;
+use plan_search::Command;
 
 // The bit pattern of a value; every NaN is shown as the quiet one.
 fn bits(x: f32) -> u32

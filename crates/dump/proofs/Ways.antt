@@ -14,8 +14,8 @@ use Rattle.plan.specs.declared.Run.{Run}
 use Rattle.plan.specs.declared.State.{State}
 use Rattle.plan.specs.declared.Upload.{Upload}
 use Rattle.plan.specs.declared.Upload.the-variants.{Idle, Running}
-use Rattle.plan.specs.Part.{part}
-use Rattle.plan.specs.Places.{offsetOf, itemAt}
+use Rattle.places.specs.Part.{part}
+use Rattle.places.specs.Places.{offsetOf, itemAt}
 use Rattle.plan.specs.View.{planOf, view}
 use Rattle.text.specs.Added.{Adds}
 use Rattle.text.specs.Digits.{spaced, hex}

@@ -9,7 +9,7 @@ use Rattle.plan.specs.declared.Plan.{Plan}
 use Rattle.plan.specs.declared.State.{State}
 use Rattle.plan.specs.declared.Upload.{Upload}
 use Rattle.plan.specs.declared.Upload.the-variants.{Idle, Running}
-use Rattle.plan.specs.Places.{itemAt}
+use Rattle.places.specs.Places.{itemAt}
 use Rattle.plan.specs.View.{planOf, view}
 use Rattle.text.specs.Words.{ascii}
 use Rattle.text.specs.Digits.{spaced, hex}

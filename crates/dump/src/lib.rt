@@ -38,7 +38,7 @@ fn put_items(
     let mut end = text::within(at, out);
     let mut n: u16 = 0;
     while n < count {
-        let first = plan::places::place_at(kind, half, n);
+        let first = places::place_at(kind, half, n);
         let bytes = text::part(store, first, ITEM_BYTES);
         end = put_item(out, end, letter, kind, n, bytes);
         n += 1;
@@ -150,7 +150,7 @@ fn put_state(out: &mut [u8], at: usize, state: State, store: &[u8]) -> usize
 pub fn put_dump(out: &mut [u8], at: usize, state: State, store: &[u8]) -> usize
     ensures { λ r. ⌜ Adds (dumpText state (now (store .entry))) (now (out .entry)) at (now (out .exit)) r ⌝ }
 {
-    if !plan::ranges::ranged(state) {
+    if !ranges::ranged(state) {
         return text::put(out, at, b"D 15\n");
     }
     let end = text::put(out, at, b"D 0\n");

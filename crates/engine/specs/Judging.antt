@@ -8,13 +8,13 @@ use native.Mathlib.Omega.{arith}
 use Rattle.rules.specs.Limits.{accepted, invalid, invalidSequence, denied, maxRepeats}
 use Rattle.rules.specs.Payload.{Bytes}
 use Rattle.rules.specs.Messages.{Station, Item, sameStation}
-use Rattle.rules.specs.Laws.Tests.{both}
+use Rattle.rule_laws.specs.Tests.{both}
 use Rattle.plan.specs.declared.Plan.{Plan}
 use Rattle.plan.specs.declared.Run.{Run}
 use Rattle.plan.specs.declared.Upload.{Upload}
 use Rattle.plan.specs.declared.Upload.the-variants.{Idle, Running}
-use Rattle.plan.specs.Places.{itemsIn}
-use Rattle.plan.specs.Ranges.{runRanged, uploadRanged}
+use Rattle.places.specs.Places.{itemsIn}
+use Rattle.ranges.specs.Ranges.{runRanged, uploadRanged}
 use Rattle.rules.specs.Model.{nextNumber, wholeOk}
 use Rattle.plan.specs.View.{stationIn}
 use Rattle.upload.specs.declared.Say.the-variants.{Ack, Ask}

@@ -8,8 +8,8 @@ ghost use Rattle.rules.specs.Messages.{station};
 ghost use Rattle.rules.specs.Items.{fault, jumpsAmong};
 ghost use Rattle.rules.specs.Model.{wholeOk};
 ghost use Rattle.item.specs.Patterns.{itemFor, patterns};
-ghost use Rattle.plan.specs.Places.{itemsIn};
-ghost use Rattle.plan.specs.Ranges.{uploadRanged};
+ghost use Rattle.places.specs.Places.{itemsIn};
+ghost use Rattle.ranges.specs.Ranges.{uploadRanged};
 ghost use Rattle.upload.specs.Turns.{turnWith, validItemTurned, itemTurned};
 ghost use Rattle.engine.specs.Judging.{InRange, judgedAs};
 use fence::fence_ok;
@@ -19,10 +19,10 @@ use limits::DENIED;
 use limits::FENCE;
 use limits::INVALID;
 use limits::INVALID_SEQUENCE;
+use places::jumps;
 use plan::Plan;
 use plan::Run;
 use plan::Upload;
-use plan::items::jumps;
 use upload::Say;
 use upload::Turned;
 use upload::updates::ended;
@@ -47,7 +47,7 @@ fn result_of(store: &[u8], kind: u8, half: bool, run: Run, item: Item) -> u8
     ensures { λ r. ⌜ r ≡ fault kind (run .count) (run .next) (jumpsAmong (itemsIn (now (store .entry)) half kind (run .next))) (patterns item) ⌝ }
 {
     let before = jumps(store, kind, half, run.next);
-    item::verdict(item, kind, run.count, run.next, before)
+    item_rules::verdict(item, kind, run.count, run.next, before)
 }
 
 // The judgement in a running upload.

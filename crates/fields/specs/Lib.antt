@@ -1,2 +1,3 @@
--- What the proofs over numbers in bytes cite.
+-- What the contracts and the proofs over numbers in bytes cite.
 pub mod Numbers
+pub mod Packed

@@ -1,9 +1,10 @@
-// Numbers in bytes of any length, a payload's or the store's, little-endian: missing bytes are zero.
+// Numbers in bytes, a payload's or the store's, little-endian: read from bytes of any length, where missing ones are zero, and written as bytes.
 ghost use mathlib.Core.Path.{_≡_};
+ghost use mathlib.Core.List.{[], _∷_};
 ghost use Prim.Native.Nat.{_+_, _≤_};
 ghost use lib.ListN.{getD};
 ghost use Rattle.rules.specs.Limits.{storeBytes};
-ghost use Rattle.rules.specs.Payload.{numberAt};
+ghost use Rattle.rules.specs.Payload.{numberAt, bytesOf};
 
 // The byte at an offset.
 pub fn byte_at(p: &[u8], at: usize) -> u8
@@ -38,4 +39,26 @@ pub fn u32_at(p: &[u8], at: usize) -> u32
     ensures { λ r. ⌜ r ≡ numberAt 4 at (now (p .entry)) ⌝ }
 {
     wide32(u16_at(p, at)) + 65536 * wide32(u16_at(p, at + 2))
+}
+
+// A number's bytes, lowest first.
+pub struct Two(pub u8, pub u8);
+
+pub struct Four(pub u8, pub u8, pub u8, pub u8);
+
+pub fn bytes16(n: u16) -> Two
+    ensures { λ r. ⌜ r .0 ∷ r .1 ∷ [] ≡ bytesOf 2 n ⌝ }
+{
+    Two((n % 256) as u8, (n / 256 % 256) as u8)
+}
+
+pub fn bytes32(n: u32) -> Four
+    ensures { λ r. ⌜ r .0 ∷ r .1 ∷ r .2 ∷ r .3 ∷ [] ≡ bytesOf 4 n ⌝ }
+{
+    Four(
+        (n % 256) as u8,
+        (n / 256 % 256) as u8,
+        (n / 256 / 256 % 256) as u8,
+        (n / 256 / 256 / 256 % 256) as u8,
+    )
 }

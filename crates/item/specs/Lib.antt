@@ -1,3 +1,2 @@
 -- What the contracts of this crate cite besides the rules.
 pub mod Patterns
-pub mod Table

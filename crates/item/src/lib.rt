@@ -1,14 +1,9 @@
-// The mission item as a struct by value, and the verdict on an item by document 01's rules. The values of its fields are read by
-// the crate values, the command table is in table, and the rules' tests one by one are in checks.
-mod checks;
-mod table;
-
+// The mission item as a struct by value, made of patterns, and its numbers. The values of its fields are read by the crate values; judging it is left to
+// item_rules.
 use limits::JUMP;
-use limits::UNSUPPORTED;
-use table::Listing;
 use values::Whole;
 ghost use mathlib.Core.Path.{_≡_};
-ghost use Rattle.rules.specs.Items.{fault, isJump};
+ghost use Rattle.rules.specs.Items.{isJump};
 ghost use Rattle.rules.specs.NextCommand.{repeatOf};
 ghost use Rattle.rules.specs.Values.{float, wholeOf, wholeNumber};
 ghost use Rattle.item.specs.Patterns.{itemFor, itemWith, patterns};
@@ -74,24 +69,6 @@ pub fn made(
         frame,
         autocontinue,
         kind,
-    }
-}
-
-// The result for an item as number `own` of a plan of `count` items of a kind, with `jumps` jumps before it: 0, or its first fault.
-pub fn verdict(item: Item, kind: u8, count: u16, own: u16, jumps: u16) -> u8
-    requires { ⌜ item ≡ itemFor (patterns item) ⌝ }
-    ensures { λ r. ⌜ r ≡ fault kind count own jumps (patterns item) ⌝ }
-{
-    let listing = table::row_of(item.command);
-    match listing {
-        Listing::Listed(row) => {
-            if row.kind == kind {
-                checks::row_fault(row, item, count, own, jumps)
-            } else {
-                UNSUPPORTED
-            }
-        }
-        Listing::NotListed => UNSUPPORTED,
     }
 }
 

@@ -11,7 +11,7 @@ use Rattle.text.specs.Added.{Adds}
 use Rattle.text.specs.Digits.{hex}
 use Rattle.text.specs.Laws.{adds-both, adds-after}
 use Rattle.script.specs.declared.Next.{Next}
-use Rattle.next_command.specs.declared.Command.{Command}
+use Rattle.plan_search.specs.declared.Command.{Command}
 use Rattle.command_words.specs.Commands.{commandText}
 use Rattle.lines.specs.Lines.{begun, replyText, untouched, markedEnd, servedLine, doneLine, stopText}
 

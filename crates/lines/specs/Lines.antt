@@ -9,7 +9,7 @@ use Rattle.text.specs.Words.{ascii}
 use Rattle.text.specs.Digits.{spaced, hex}
 use Rattle.script.specs.declared.Next.{Next}
 use Rattle.script.specs.declared.Next.the-variants.{Play, End, Cut, Bad}
-use Rattle.next_command.specs.declared.Command.{Command}
+use Rattle.plan_search.specs.declared.Command.{Command}
 use Rattle.command_words.specs.Commands.{commandText}
 
 -- a letter, and numbers after it

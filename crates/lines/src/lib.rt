@@ -4,7 +4,7 @@ ghost use mathlib.Core.List.{_∷_};
 ghost use lib.ListN.{drop};
 ghost use Rattle.text.specs.Added.{Adds};
 ghost use Rattle.lines.specs.Lines.{begun, replyText, untouched as Lines·untouched, markedEnd, servedLine, doneLine, row, stopText};
-use next_command::Command;
+use plan_search::Command;
 use script::Next;
 
 // What a reply array holds before a call.

@@ -12,11 +12,11 @@ use Rattle.rules.specs.Values as values
 use Rattle.rules.specs.Values.{integer, notWhole}
 use Rattle.rules.specs.NextCommand.{commandOf, targetOf, repeatOf, runsAfter, ends, stands, follows, searchFrom, settle, countsAfter, nowhere, found, stuck}
 use Rattle.rules.specs.NextCommand as rules
-use Rattle.next_command.specs.declared.meet.Met.{Met}
-use Rattle.next_command.specs.declared.meet.Met.the-variants.{Ends, Stands, Follows}
+use Rattle.plan_search.specs.declared.Met.{Met}
+use Rattle.plan_search.specs.declared.Met.the-variants.{Ends, Stands, Follows}
 use Rattle.next_command.specs.declared.find.Found.{Found}
-use Rattle.next_command.specs.Orders.{orderOf, order-for}
-use Rattle.next_command.specs.Meeting.{metFor, isCounted}
+use Rattle.plan_search.specs.Orders.{orderOf, order-for}
+use Rattle.plan_search.specs.Meeting.{metFor, isCounted}
 
 -- what a search finds
 unfoldable pub foundOf : Found → rules.Found

@@ -1,7 +1,3 @@
 -- What the contracts of this crate cite besides the rules.
-pub mod PlanItems
-pub mod Orders
-pub mod Valid
-pub mod Meeting
 pub mod Finding
 pub mod OrderedBy

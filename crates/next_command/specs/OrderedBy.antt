@@ -11,7 +11,7 @@ use Rattle.plan.specs.declared.State.{State}
 use Rattle.plan.specs.View.{view}
 use Rattle.next_command.specs.declared.Ordered.{Ordered}
 use Rattle.next_command.specs.declared.find.Found.{Found}
-use Rattle.next_command.specs.Orders.{orderOf}
+use Rattle.plan_search.specs.Orders.{orderOf}
 use Rattle.next_command.specs.Finding.{foundOf}
 
 -- the model after a "command done" call

@@ -1,16 +1,16 @@
 // Following jumps: at most 64 in one search.
-use crate::Command;
-use crate::meet;
-use crate::meet::Met;
 use limits::JUMP_COUNTS;
 use limits::MAX_FOLLOWED;
+use plan_search::Command;
+use plan_search::Met;
+use plan_search::meet;
 ghost use mathlib.Core.Path.{_≡_};
 ghost use mathlib.Core.Bool.{true, cond};
 ghost use Prim.Native.Nat.{_+_, _≤_, _<_};
 ghost use lib.ListN.{length, getD, set};
 ghost use Rattle.rules.specs.Limits.{flight, sizeOf, storeBytes, maxFollowed, maxRuns, maxJumps};
 ghost use Rattle.rules.specs.NextCommand as rules;
-ghost use Rattle.plan.specs.Places.{itemsIn};
+ghost use Rattle.places.specs.Places.{itemsIn};
 ghost use Rattle.next_command.specs.Finding.{foundOf, settledAs};
 
 // What a search finds: the answer and, where it stands at an item, that item and the counts.
@@ -71,7 +71,7 @@ pub fn find(store: &[u8], half: bool, len: u16, counts: [u16; JUMP_COUNTS], from
     let mut n = from;
     let mut left = MAX_FOLLOWED;
     while 0 < left {
-        let met = meet::meet(store, half, len, runs, n);
+        let met = meet(store, half, len, runs, n);
         let Met::Follows(j, target, up) = met else {
             return settled(met, runs);
         };
@@ -80,5 +80,5 @@ pub fn find(store: &[u8], half: bool, len: u16, counts: [u16; JUMP_COUNTS], from
         n = target;
         left -= 1;
     }
-    settled(meet::meet(store, half, len, runs, n), runs)
+    settled(meet(store, half, len, runs, n), runs)
 }

@@ -1,9 +1,10 @@
-// The next command: what a "command done" call answers, and the state after it. Looking at the items is in meet, following jumps in find.
+// The next command: what a "command done" call answers, and the state after it. Looking at the items is left to the
+// crate plan_search, following jumps is in find.
 mod find;
-mod meet;
 
 use find::Found;
 use plan::State;
+pub use plan_search::Command;
 ghost use mathlib.Core.Path.{_≡_};
 ghost use mathlib.Core.Bool.{true, cond};
 ghost use Prim.Native.Nat.{_+_, _≤_, _<_};
@@ -12,18 +13,6 @@ ghost use Rattle.rules.specs.Limits.{flight, sizeOf, storeBytes};
 ghost use Rattle.rules.specs.Model.{inRange};
 ghost use Rattle.plan.specs.View.{view};
 ghost use Rattle.next_command.specs.OrderedBy.{OrderedBy, reachedAs};
-
-// The answer, with the item's number: its seconds, metres, degrees or speed, or a servo's channel and pulse.
-pub enum Command {
-    Fly(u16),
-    Wait(u16, f32),
-    Near(u16, f32),
-    Turn(u16, f32),
-    Speed(u16, f32),
-    Servo(u16, u16, u16),
-    Finished,
-    Stuck,
-}
 
 // The answer beside the new state.
 pub struct Ordered {

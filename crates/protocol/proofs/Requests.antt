@@ -8,10 +8,10 @@ use borrow.Author.Tests.{eqb-true}
 use Rattle.rules.specs.Payload.{Bytes}
 use Rattle.rules.specs.Layouts.{setCurrentId, currentId, requestListId, countId, clearAllId, ackId, requestIntId, itemIntId, statustextId}
 use Rattle.rules.specs.Messages.{Message, messageOf, decode}
-use Rattle.rules.specs.Laws.Tests.{either}
+use Rattle.rule_laws.specs.Tests.{either}
 use Rattle.rules.specs.Calls.{isKnown}
 use Rattle.rules.specs.Step.{kindOk}
-use Rattle.wire.specs.Table.{isRead}
+use Rattle.message_table.specs.Table.{isRead}
 use Rattle.refusal.specs.Refusals.{requestOf}
 
 -- every message but CLEAR_ALL and ACK may have the kinds up to the last

@@ -14,8 +14,8 @@ use Rattle.rules.specs.Calls.{isKnown}
 use Rattle.plan.specs.declared.State.{State}
 use Rattle.plan.specs.declared.Upload.{Upload}
 use Rattle.plan.specs.declared.Upload.the-variants.{Idle, Running}
-use Rattle.plan.specs.Part.{part}
-use Rattle.plan.specs.Places.{offsetOf, itemAt, itemsIn, offset-within}
+use Rattle.places.specs.Part.{part}
+use Rattle.places.specs.Places.{offsetOf, itemAt, itemsIn, offset-within}
 use Rattle.plan.specs.View.{planOf, uploadIn, view}
 use Rattle.refine.specs.Items.{len-ranged, next-below}
 

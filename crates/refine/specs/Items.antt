@@ -18,16 +18,16 @@ use Rattle.rules.specs.Model.{Model, idle, running, expected, whole, wholeOk, n
 use Rattle.rules.specs.Calls.{isKnown}
 use Rattle.rules.specs.Step.{Stepped, Answer, says, acks, requests, onValidItem, onItem}
 use Rattle.rules.specs.Step as rule
-use Rattle.rules.specs.Laws.Tests.{both, either₂}
-use Rattle.rules.specs.Laws.Kinds.{each-kind, ranged-kind}
-use Rattle.rules.specs.Laws.Layout.{length-itemOf}
+use Rattle.rule_laws.specs.Tests.{both, either₂}
+use Rattle.rule_laws.specs.Kinds.{each-kind, ranged-kind}
+use Rattle.rule_laws.specs.Layout.{length-itemOf}
 use Rattle.plan.specs.declared.State.{State}
 use Rattle.plan.specs.declared.Plan.{Plan}
 use Rattle.plan.specs.declared.Run.{Run}
 use Rattle.plan.specs.declared.Upload.{Upload}
 use Rattle.plan.specs.declared.Upload.the-variants.{Idle, Running}
-use Rattle.plan.specs.Places.{itemsIn, length-items}
-use Rattle.plan.specs.Writes.{putAt, Apart, otherHalf, otherKind, beyond, items-apart, items-more}
+use Rattle.places.specs.Places.{itemsIn, length-items}
+use Rattle.places.specs.Writes.{putAt, Apart, otherHalf, otherKind, beyond, items-apart, items-more}
 use Rattle.plan.specs.View.{planOf, planIn, runIn, uploadIn, view, stationIn}
 use Rattle.upload.specs.declared.Say.{Say}
 use Rattle.upload.specs.declared.Say.the-variants.{Ack, Ask}

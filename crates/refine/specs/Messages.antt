@@ -14,12 +14,12 @@ use Rattle.rules.specs.Model as model
 use Rattle.rules.specs.Model.{Model, idle, every, isOthers, isOwn, shownNumber, choose, inRange}
 use Rattle.rules.specs.Calls.{Request, chooses, asksList, announces, clears, acknowledges, asksItem, brings, isKnown}
 use Rattle.rules.specs.Step.{says, silent, currentField, idleAt, covered, anyOthers, onClear, onList, onRequest, onSetCurrent, onKnown, kindOk, onMessage, onAck}
-use Rattle.rules.specs.Laws.Tests.{both, either, either₂}
-use Rattle.rules.specs.Laws.Kinds.{covered-known}
+use Rattle.rule_laws.specs.Tests.{both, either, either₂}
+use Rattle.rule_laws.specs.Kinds.{covered-known}
 use Rattle.plan.specs.declared.State.{State}
 use Rattle.plan.specs.declared.Plan.{Plan}
 use Rattle.plan.specs.declared.Upload.{Upload}
-use Rattle.plan.specs.Places.{itemAt, items-at}
+use Rattle.places.specs.Places.{itemAt, items-at}
 use Rattle.plan.specs.View.{emptyPlan, planOf, view}
 use Rattle.upload.specs.declared.Say.the-variants.{Silent}
 use Rattle.upload.specs.declared.Turned.{Turned}

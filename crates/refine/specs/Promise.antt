@@ -17,7 +17,7 @@ use Rattle.plan.specs.declared.State.{State}
 use Rattle.plan.specs.declared.Plan.{Plan}
 use Rattle.plan.specs.declared.Upload.{Upload}
 use Rattle.plan.specs.declared.Upload.the-variants.{Idle, Running}
-use Rattle.plan.specs.Places.{offsetOf}
+use Rattle.places.specs.Places.{offsetOf}
 use Rattle.plan.specs.View.{planOf, stationIn}
 
 -- what a call returns: the new state, the outcome, the reply's id and length, and the command of a "command done" call (Stuck for any other call)

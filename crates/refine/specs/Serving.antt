@@ -13,11 +13,11 @@ use Rattle.rules.specs.Model.{inRange}
 use Rattle.rules.specs.NextCommand.{Found, nowhere, found, next, reach, advance, answerOf}
 use Rattle.rules.specs.Calls.{Call, storeLent, Request, chooses, asksList, announces, clears, acknowledges, asksItem, brings, Heard, refuses, request, expiry, commandDone, heard}
 use Rattle.rules.specs.Step.{Answer, refused, orders, outcomeOf, replyId, replyBytes, commandIn, ReadsBack, covered, kindOk}
-use Rattle.rules.specs.Fitting.{ModelFits, CallFits}
-use Rattle.rules.specs.ReadBack.{replies-read}
-use Rattle.rules.specs.Laws.Tests.{either}
-use Rattle.rules.specs.Laws.Heard.{HeardFits, heard-fits}
-use Rattle.rules.specs.Laws.Refused.{Room, none, enough, room-or-refused}
+use Rattle.rule_laws.specs.Fitting.{ModelFits, CallFits}
+use Rattle.rule_laws.specs.ReadBack.{replies-read}
+use Rattle.rule_laws.specs.Tests.{either}
+use Rattle.rule_laws.specs.Heard.{HeardFits, heard-fits}
+use Rattle.rule_laws.specs.Refused.{Room, none, enough, room-or-refused}
 use Rattle.plan.specs.declared.State.{State}
 use Rattle.plan.specs.View.{planOf, view}
 use Rattle.upload.specs.declared.Say.the-variants.{Silent}

@@ -16,19 +16,19 @@ use Rattle.rules.specs.Model.{Model, nextNumber, elapsed, wholeOk, every, inRan
 use Rattle.rules.specs.Calls.{Call, Request, chooses, asksList, announces, clears, acknowledges, asksItem, brings, Heard, refuses, request, expiry, commandDone, isKnown, heard}
 use Rattle.rules.specs.NextCommand.{next, answerOf, advance}
 use Rattle.rules.specs.Step.{refused, orders, isRefused, Stepped, covered, kindOk, act, step}
-use Rattle.rules.specs.Laws.Tests.{both, either}
-use Rattle.rules.specs.Laws.Kinds.{covered-known, known-below}
-use Rattle.rules.specs.Laws.Lists.{at-set}
-use Rattle.rules.specs.Laws.Layout.{length-itemOf}
-use Rattle.rules.specs.Laws.Refused.{message-answered, timer-answered}
+use Rattle.rule_laws.specs.Tests.{both, either}
+use Rattle.rule_laws.specs.Kinds.{covered-known, known-below}
+use Rattle.rule_laws.specs.Lists.{at-set}
+use Rattle.rule_laws.specs.Layout.{length-itemOf}
+use Rattle.rule_laws.specs.Refused.{message-answered, timer-answered}
 use Rattle.plan.specs.declared.State.{State}
 use Rattle.plan.specs.declared.Plan.{Plan}
 use Rattle.plan.specs.declared.Run.{Run}
 use Rattle.plan.specs.declared.Upload.{Upload}
 use Rattle.plan.specs.declared.Upload.the-variants.{Idle, Running}
-use Rattle.plan.specs.Part.{getD-put-before, getD-put-after}
-use Rattle.plan.specs.Places.{itemsIn, offsetOf, offset-within}
-use Rattle.plan.specs.Writes.{length-stays}
+use Rattle.places.specs.Part.{getD-put-before, getD-put-after}
+use Rattle.places.specs.Places.{itemsIn, offsetOf, offset-within}
+use Rattle.places.specs.Writes.{length-stays}
 use Rattle.plan.specs.View.{emptyPlan, planOf, view, stationIn}
 use Rattle.upload.specs.declared.Say.the-variants.{Silent}
 use Rattle.upload.specs.declared.Turned.{Turned}

@@ -12,13 +12,13 @@ use Rattle.rules.specs.Model as model
 use Rattle.rules.specs.Model.{idle, running, elapsed, isOthers, isOwn, withPlan}
 use Rattle.rules.specs.Calls.{isKnown}
 use Rattle.rules.specs.Step.{Stepped, Answer, silent, acks, requests, onCount, onAck, onTimer}
-use Rattle.rules.specs.Laws.Tests.{either₂}
+use Rattle.rule_laws.specs.Tests.{either₂}
 use Rattle.plan.specs.declared.State.{State}
 use Rattle.plan.specs.declared.Plan.{Plan}
 use Rattle.plan.specs.declared.Run.{Run}
 use Rattle.plan.specs.declared.Upload.{Upload}
 use Rattle.plan.specs.declared.Upload.the-variants.{Idle, Running}
-use Rattle.plan.specs.Places.{itemsIn, length-items}
+use Rattle.places.specs.Places.{itemsIn, length-items}
 use Rattle.plan.specs.View.{planOf, runIn, uploadIn, view}
 use Rattle.upload.specs.declared.Say.{Say}
 use Rattle.upload.specs.declared.Say.the-variants.{Silent, Ack, Ask}

@@ -11,12 +11,12 @@ use Rattle.rules.specs.Payload.{Bytes}
 use Rattle.rules.specs.Model as model
 use Rattle.rules.specs.Model.{Model, withPlan}
 use Rattle.rules.specs.Calls.{isKnown}
-use Rattle.rules.specs.Laws.Kinds.{each-kind, known-below}
-use Rattle.rules.specs.Laws.Lists.{at-set}
+use Rattle.rule_laws.specs.Kinds.{each-kind, known-below}
+use Rattle.rule_laws.specs.Lists.{at-set}
 use Rattle.plan.specs.declared.State.{State}
 use Rattle.plan.specs.declared.Plan.{Plan}
 use Rattle.plan.specs.declared.Upload.{Upload}
-use Rattle.plan.specs.Places.{length-items}
+use Rattle.places.specs.Places.{length-items}
 use Rattle.plan.specs.View.{emptyPlan, planOf, planIn, uploadIn, view}
 use Rattle.upload.specs.declared.Say.{Say}
 use Rattle.upload.specs.declared.Turned.{Turned}

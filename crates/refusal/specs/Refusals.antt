@@ -10,7 +10,7 @@ use Rattle.rules.specs.Limits.{rally, storeBytes, replyBytesMin, shortStore, ou
 use Rattle.rules.specs.Payload.{Bytes}
 use Rattle.rules.specs.Messages.{Station, Message, setCurrent, current, requestList, count, clearAll, ack, requestInt, itemInt, statustext, unknown, decode}
 use Rattle.rules.specs.Calls.{message, timer, done, Request, chooses, asksList, announces, clears, acknowledges, asksItem, brings, Heard, refuses, request, expiry, commandDone, oursOrAll, forUs, heardMessage, heard, isKnown}
-use Rattle.wire.specs.Table.{isRead, targetOf, kindOf}
+use Rattle.message_table.specs.Table.{isRead, targetOf, kindOf}
 
 -- the outcome of a refused call; 0 of any other
 abbrev pub refusalOf : Heard → ℕ

@@ -72,10 +72,10 @@ pub fn message_refusal(
     if payload.len() == 0 {
         return EMPTY_PAYLOAD;
     }
-    if !wire::is_read(id) {
+    if !message_table::is_read(id) {
         return NOT_READ;
     }
-    let head = wire::head_of(id, payload);
+    let head = message_table::head_of(id, payload);
     if !(ours_or_all(own_system, head.system) & ours_or_all(own_component, head.component)) {
         return NOT_FOR_US;
     }

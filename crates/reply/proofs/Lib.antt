@@ -1,3 +1,2 @@
--- Laws that several proofs cite: trimming, and a message's bytes field by field.
-pub mod Trimming
+-- Laws that several proofs cite.
 pub mod Packing

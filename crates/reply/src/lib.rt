@@ -1,13 +1,67 @@
-// Replies: the bytes of each message that is written here, and writing them into a lent buffer without trailing zeros.
-mod payloads;
-mod trim;
-mod write;
-
-pub use payloads::item_bytes;
+// Writing each message into a lent buffer: the trimmed payload at its start, the rest unchanged, the length answered; it reads back as the
+// message. A buffer that is shorter than the message's full length stays as it is.
+ghost use Rattle.wire.specs.Structs.{currentMessage, countMessage, ackMessage, requestIntMessage, itemIntMessage, statustextMessage};
+ghost use Rattle.reply.specs.Written.{Wrote};
+pub use item_payload::item_bytes;
+use payloads::ack_bytes;
+use payloads::count_bytes;
+use payloads::current_bytes;
 pub use payloads::no_such_item;
-pub use write::write_ack;
-pub use write::write_count;
-pub use write::write_current;
-pub use write::write_item_int;
-pub use write::write_request_int;
-pub use write::write_statustext;
+use payloads::request_int_bytes;
+use payloads::statustext_bytes;
+use trimming::write_trimmed;
+use wire::ACK_ID;
+use wire::Ack;
+use wire::COUNT_ID;
+use wire::CURRENT_ID;
+use wire::Count;
+use wire::Current;
+use wire::ITEM_INT_ID;
+use wire::ItemInt;
+use wire::REQUEST_INT_ID;
+use wire::RequestInt;
+use wire::STATUSTEXT_ID;
+use wire::Statustext;
+
+pub fn write_current(m: Current, out: &mut [u8]) -> usize
+    ensures { λ r. ⌜ Wrote (currentMessage m) (now (out .entry)) (now (out .exit)) r ⌝ }
+{
+    let bytes = current_bytes(m);
+    write_trimmed(CURRENT_ID, &bytes, out)
+}
+
+pub fn write_count(m: Count, out: &mut [u8]) -> usize
+    ensures { λ r. ⌜ Wrote (countMessage m) (now (out .entry)) (now (out .exit)) r ⌝ }
+{
+    let bytes = count_bytes(m);
+    write_trimmed(COUNT_ID, &bytes, out)
+}
+
+pub fn write_ack(m: Ack, out: &mut [u8]) -> usize
+    ensures { λ r. ⌜ Wrote (ackMessage m) (now (out .entry)) (now (out .exit)) r ⌝ }
+{
+    let bytes = ack_bytes(m);
+    write_trimmed(ACK_ID, &bytes, out)
+}
+
+pub fn write_request_int(m: RequestInt, out: &mut [u8]) -> usize
+    ensures { λ r. ⌜ Wrote (requestIntMessage m) (now (out .entry)) (now (out .exit)) r ⌝ }
+{
+    let bytes = request_int_bytes(m);
+    write_trimmed(REQUEST_INT_ID, &bytes, out)
+}
+
+pub fn write_item_int(m: ItemInt, out: &mut [u8]) -> usize
+    ensures { λ r. ⌜ Wrote (itemIntMessage m) (now (out .entry)) (now (out .exit)) r ⌝ }
+{
+    let item = m.item;
+    let bytes = item_bytes(m.system, m.component, m.current, item);
+    write_trimmed(ITEM_INT_ID, &bytes, out)
+}
+
+pub fn write_statustext(m: Statustext, out: &mut [u8]) -> usize
+    ensures { λ r. ⌜ Wrote (statustextMessage m) (now (out .entry)) (now (out .exit)) r ⌝ }
+{
+    let bytes = statustext_bytes(m);
+    write_trimmed(STATUSTEXT_ID, &bytes, out)
+}

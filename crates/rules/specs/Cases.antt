@@ -4,7 +4,7 @@ pub mod Readings
 pub mod Guards
 pub mod Bounds
 use Prim.Native.Nat.{ℕ}
-use mathlib.Core.Path.{_≡_}
+use mathlib.Core.Path.{_≡_, refl, _∙_}
 use mathlib.Core.List.{List, [], _∷_, map}
 use mathlib.Core.Bool.{true, false}
 use lib.ListN.{replicate}
@@ -50,6 +50,26 @@ a is b = record { given = a; expected = b }
 abbrev pub Hold : List Case → Type 0
 Hold cases = map (λ (c : Case). c .given) cases ≡ map (λ (c : Case). c .expected) cases
 
+-- ---- what is read at many places is computed once
+
+-- a list, computed before it is handed on
+abbrev pub handed : {A B : Type 0} → List A → (List A → B) → B
+handed [] on = on []
+handed (a ∷ rest) on = handed rest (λ l. on (a ∷ l))
+
+handed-is : {A B : Type 0} (l : List A) (on : List A → B) → handed l on ≡ on l
+handed-is [] on = refl
+handed-is (a ∷ rest) on = handed-is rest (λ l. on (a ∷ l))
+
+-- a model likewise
+abbrev handedModel : {B : Type 0} → Model → (Model → B) → B
+handedModel m on = handed (m .uploads) (λ (us : List Upload). handed (m .shown .plans) (λ (ps : List Plan). on (record { shown = record { plans = ps; current = m .shown .current; begun = m .shown .begun; counts = m .shown .counts }; uploads = us })))
+
+handedModel-is : {B : Type 0} (m : Model) (on : Model → B) → handedModel m on ≡ on m
+handedModel-is m on =
+    handed-is (m .uploads) (λ (us : List Upload). handed (m .shown .plans) (λ (ps : List Plan). on (record { shown = record { plans = ps; current = m .shown .current; begun = m .shown .begun; counts = m .shown .counts }; uploads = us })))
+    ∙ handed-is (m .shown .plans) (λ (ps : List Plan). on (record { shown = record { plans = ps; current = m .shown .current; begun = m .shown .begun; counts = m .shown .counts }; uploads = m .uploads }))
+
 -- ---- stations and calls: the vehicle is 1/1
 
 abbrev pub vehicle : Station
@@ -62,7 +82,7 @@ abbrev pub neighbour : Station
 neighbour = station 254 190
 
 abbrev pub sends : (from : Station) (clock id : ℕ) → Bytes → Call
-sends from clock id payload = message vehicle from id payload clock storeBytes replyBytesMin
+sends from clock id payload = handed payload (λ (p : Bytes). message vehicle from id p clock storeBytes replyBytesMin)
 
 abbrev pub sendsCount : (from : Station) (clock kind n : ℕ) → Call
 sendsCount from clock kind n = sends from clock countId (encode (count vehicle n kind 0))
@@ -93,7 +113,14 @@ finishes = done storeBytes
 
 -- the answer to a call after a list of calls
 abbrev pub after : Model → List Call → Call → Answer
-after m calls c = step (run m calls) c .answer
+after m calls c = handedModel (run m calls) (λ (n : Model). step n c .answer)
+
+-- so `sends` and `after` say no more than these
+sends-is : (from : Station) (clock id : ℕ) (payload : Bytes) → sends from clock id payload ≡ message vehicle from id payload clock storeBytes replyBytesMin
+sends-is from clock id payload = handed-is payload (λ (p : Bytes). message vehicle from id p clock storeBytes replyBytesMin)
+
+after-is : (m : Model) (calls : List Call) (c : Call) → after m calls c ≡ step (run m calls) c .answer
+after-is m calls c = handedModel-is (run m calls) (λ (n : Model). step n c .answer)
 
 -- the answers to a list of "command done" calls
 abbrev pub ordered : Model → List Call → List Command

@@ -13,11 +13,11 @@ use Rattle.rules.specs.Model.{inRange}
 use Rattle.rules.specs.NextCommand as rules
 use Rattle.rules.specs.Calls.{message, timer, done, heard}
 use Rattle.rules.specs.Step.{orders, commandIn, onMessage, onTimer}
-use Rattle.rules.specs.Laws.Refused.{plain-stuck, message-plain, timer-plain}
-use Rattle.wire.specs.Table.{isRead, kindOf}
+use Rattle.rule_laws.specs.Refused.{plain-stuck, message-plain, timer-plain}
+use Rattle.message_table.specs.Table.{isRead, kindOf}
 use Rattle.plan.specs.declared.State.{State}
 use Rattle.plan.specs.View.{view}
-use Rattle.plan.specs.Ranges.{stateRanged, ranged-view}
+use Rattle.ranges.specs.Ranges.{stateRanged, ranged-view}
 use Rattle.states.specs.Whole.{Done, gives, messageDone, timerDone}
 use Rattle.refusal.specs.Refusals.{refusalOf, requestOf, HeardMessage, HeardTimer, HeardDone, message-heard, timer-heard, done-heard}
 use Rattle.answers.specs.declared.Served.{Served}

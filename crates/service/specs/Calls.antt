@@ -12,7 +12,7 @@ use Rattle.plan.specs.View.{view}
 use Rattle.states.specs.Whole.{gives}
 use Rattle.refusal.specs.Refusals.{refusalOf, refused-with}
 use Rattle.answers.specs.declared.Served.{Served}
-use Rattle.next_command.specs.Orders.{orderOf}
+use Rattle.plan_search.specs.Orders.{orderOf}
 use Rattle.refine.specs.Promise as promise
 use Rattle.refine.specs.Promise.{Result, halfOf, spare}
 use Rattle.refine.specs.Steps.{refused-steps}

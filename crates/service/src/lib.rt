@@ -41,7 +41,7 @@ pub fn message(
 ) -> Served
     ensures { λ r. ⌜ Serves (calls.message (station «own_system» «own_component») (station system component) id (now (payload .entry)) clock (length (now (store .entry))) (length (now (reply .entry)))) state (now (store .entry)) (now (store .exit)) (now (reply .entry)) (now (reply .exit)) (servedResult r) ⌝ }
 {
-    let ranged = plan::ranges::ranged(state);
+    let ranged = ranges::ranged(state);
     let refused = refusal::message_refusal(
         ranged,
         store.len(),
@@ -66,7 +66,7 @@ pub fn message(
 pub fn timer(state: State, store: &[u8], reply: &mut [u8], kind: u8, clock: u32) -> Served
     ensures { λ r. ⌜ Serves (calls.timer kind clock (length (now (store .entry))) (length (now (reply .entry)))) state (now (store .entry)) (now (store .entry)) (now (reply .entry)) (now (reply .exit)) (servedResult r) ⌝ }
 {
-    let ranged = plan::ranges::ranged(state);
+    let ranged = ranges::ranged(state);
     let refused = refusal::timer_refusal(ranged, store.len(), reply.len(), kind);
     if refused != 0 {
         return Served {
@@ -83,7 +83,7 @@ pub fn timer(state: State, store: &[u8], reply: &mut [u8], kind: u8, clock: u32)
 pub fn advance(state: State, store: &[u8]) -> Advanced
     ensures { λ r. ⌜ Serves (calls.done (length (now (store .entry)))) state (now (store .entry)) (now (store .entry)) [] [] (advanceResult r) ⌝ }
 {
-    let ranged = plan::ranges::ranged(state);
+    let ranged = ranges::ranged(state);
     let refused = refusal::done_refusal(ranged, store.len());
     if refused != 0 {
         return Advanced {

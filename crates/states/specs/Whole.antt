@@ -11,7 +11,7 @@ use Rattle.rules.specs.Model.{noCounts, shownNumber}
 use Rattle.rules.specs.Calls.{Request, chooses, asksList, announces, clears, acknowledges, asksItem, brings}
 use Rattle.rules.specs.Step.{Answer, silent, says, covered, kindOk, currentField, currentOf, refusalText}
 use Rattle.plan.specs.declared.State.{State}
-use Rattle.plan.specs.Places.{itemAt}
+use Rattle.places.specs.Places.{itemAt}
 use Rattle.plan.specs.View.{planOf}
 use Rattle.upload.specs.declared.Say.{Say}
 use Rattle.upload.specs.declared.Say.the-variants.{Silent, Ack, Ask}

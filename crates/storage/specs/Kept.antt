@@ -6,11 +6,11 @@ use lib.ListN.{length}
 use Rattle.rules.specs.Limits.{rally, sizeOf, storeBytes}
 use Rattle.rules.specs.Payload.{Bytes}
 use Rattle.rules.specs.Messages.{Item, station, itemInt, itemOf, itemIn}
-use Rattle.rules.specs.Fitting.{Fits}
-use Rattle.rules.specs.ReadBack.{item-reads-back}
-use Rattle.rules.specs.Laws.Layout.{length-itemOf}
-use Rattle.plan.specs.Places.{itemAt}
-use Rattle.plan.specs.Writes.{putAt, item-fetched}
+use Rattle.rule_laws.specs.Fitting.{Fits}
+use Rattle.rule_laws.specs.ReadBack.{item-reads-back}
+use Rattle.rule_laws.specs.Layout.{length-itemOf}
+use Rattle.places.specs.Places.{itemAt}
+use Rattle.places.specs.Writes.{putAt, item-fetched}
 
 pub kept-fetched :
     (store : Bytes) (half : Bool) (kind n : ℕ) (i : Item) → storeBytes ≤ length store → kind ≤ rally → n < sizeOf kind → Fits (itemInt (station 0 0) 0 i)

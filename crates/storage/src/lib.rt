@@ -5,12 +5,12 @@ ghost use lib.ListN.{length};
 ghost use Rattle.rules.specs.Limits.{rally, sizeOf, storeBytes};
 ghost use Rattle.rules.specs.Messages.{itemIn, itemOf};
 ghost use Rattle.item.specs.Patterns.{itemFor, patterns};
-ghost use Rattle.plan.specs.Places.{itemAt};
-ghost use Rattle.plan.specs.Writes.{putAt};
+ghost use Rattle.places.specs.Places.{itemAt};
+ghost use Rattle.places.specs.Writes.{putAt};
 use item::Item;
 use limits::ITEM_BYTES;
-use plan::items::put_item;
-use plan::places::place_at;
+use places::place_at;
+use places::put_item;
 
 // The address and the current field of a stored item.
 const NOBODY: u8 = 0;
@@ -24,7 +24,7 @@ pub fn fetch(store: &[u8], kind: u8, half: bool, n: u16) -> Item
 {
     let at = place_at(kind, half, n);
     let end = at + ITEM_BYTES;
-    wire::item_at(&store[at..end])
+    item_payload::item_at(&store[at..end])
 }
 
 // The item becomes the one with a number, and is fetched from there as it was kept; every other byte of the store stays.
@@ -32,6 +32,6 @@ pub fn keep(store: &mut [u8], kind: u8, half: bool, n: u16, item: Item)
     requires { ⌜ (storeBytes ≤ length (now store)) × (kind ≤ rally) × (n < sizeOf kind) ⌝ }
     ensures { λ _. ⌜ (now (store .exit) ≡ putAt (now (store .entry)) half kind n (itemOf (patterns item))) × (itemIn (itemAt (now (store .exit)) half kind n) ≡ patterns item) ⌝ }
 {
-    let bytes = reply::item_bytes(NOBODY, NOBODY, NOT_CURRENT, item);
+    let bytes = item_payload::item_bytes(NOBODY, NOBODY, NOT_CURRENT, item);
     put_item(store, place_at(kind, half, n), bytes);
 }

@@ -11,8 +11,8 @@ use Rattle.plan.specs.declared.Plan.{Plan}
 use Rattle.plan.specs.declared.Run.{Run}
 use Rattle.plan.specs.declared.Upload.{Upload}
 use Rattle.plan.specs.declared.Upload.the-variants.{Idle, Running}
-use Rattle.plan.specs.Places.{itemsIn}
-use Rattle.plan.specs.Writes.{putAt}
+use Rattle.places.specs.Places.{itemsIn}
+use Rattle.places.specs.Writes.{putAt}
 use Rattle.plan.specs.View.{stationIn}
 use Rattle.upload.specs.declared.Say.{Say}
 use Rattle.upload.specs.declared.Say.the-variants.{Silent, Ack, Ask}

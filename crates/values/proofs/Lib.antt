@@ -1,4 +1,2 @@
 -- Laws that several functions' proofs cite.
-pub mod NumberTests
-pub mod FloatTests
 pub mod Reading

@@ -17,8 +17,8 @@ use Rattle.rules.specs.Limits.{halfClock}
 use Rattle.rules.specs.Values.{wholeOf, integer, notWhole}
 use Rattle.values.specs.declared.Whole.the-variants.{Integer, NotWhole}
 use Rattle.values.specs.Wholes.{whole32}
-use Rattle.rules.specs.Laws.Tests.{eqb-sym}
-use Rattle.values.proofs.NumberTests.{le-or-eq, eqb-scaled}
+use Rattle.rule_laws.specs.Tests.{eqb-sym}
+use Rattle.float_tests.proofs.NumberTests.{le-or-eq, eqb-scaled}
 
 -- -2 ^ 31 and 2 ^ 31
 abbrev pub lowest : Float

@@ -1,7 +1,12 @@
-// The values of params and coordinates: what their bit patterns stand for, and the tests that the item rules make of them.
+// The values of params and coordinates: what their bit patterns stand for, and floats as whole numbers. The tests that the item rules make of floats are the
+// crate float_tests'.
 ghost use mathlib.Core.Path.{_≡_};
-ghost use Rattle.rules.specs.Values.{signed, float, finite, atLeastZero, aboveZero, zeroTo, wholeOf, wholeNumber};
+ghost use Rattle.rules.specs.Values.{signed, float, wholeOf, wholeNumber};
 ghost use Rattle.values.specs.Wholes.{whole32, number31};
+pub use float_tests::above_zero;
+pub use float_tests::at_least_zero;
+pub use float_tests::is_finite;
+pub use float_tests::zero_to;
 
 // The float of a bit pattern; of every NaN pattern the NaN.
 pub fn float_of(bits: u32) -> f32
@@ -21,31 +26,6 @@ pub fn signed_of(bits: u32) -> i32
         return bits as i32;
     }
     -1 - ((0xffff_ffff - bits) as i32)
-}
-
-pub fn is_finite(x: f32) -> bool
-    ensures { λ r. ⌜ r ≡ finite x ⌝ }
-{
-    (-1.0 / 0.0 < x) & (x < 1.0 / 0.0)
-}
-
-// Minus zero is at least 0.
-pub fn at_least_zero(x: f32) -> bool
-    ensures { λ r. ⌜ r ≡ atLeastZero x ⌝ }
-{
-    (0.0 <= x) & (x < 1.0 / 0.0)
-}
-
-pub fn above_zero(x: f32) -> bool
-    ensures { λ r. ⌜ r ≡ aboveZero x ⌝ }
-{
-    (0.0 < x) & (x < 1.0 / 0.0)
-}
-
-pub fn zero_to(limit: u16, x: f32) -> bool
-    ensures { λ r. ⌜ r ≡ zeroTo limit x ⌝ }
-{
-    (0.0 <= x) & (x <= limit as f32)
 }
 
 // An exact reading as a whole number of 32 bits.

@@ -1,3 +1,2 @@
 -- What the contracts of reading and writing cite beside the rules.
-pub mod Table
 pub mod Structs

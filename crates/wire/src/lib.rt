@@ -1,10 +1,22 @@
-// MAVLink payloads: the constant table of messages, a struct for each message read or written here, and reading with zero
-// filling. Writing is left to the crate reply, and what a message does to others.
+// MAVLink payloads: a struct for each message read or written here, and reading with zero filling. Writing is left to the crate reply, and what a
+// message does to others.
 mod read;
 mod structs;
-mod table;
 
-pub use read::item_at;
+pub use item_payload::item_at;
+pub use message_table::ACK_ID;
+pub use message_table::CLEAR_ALL_ID;
+pub use message_table::COUNT_ID;
+pub use message_table::CURRENT_ID;
+pub use message_table::Head;
+pub use message_table::ITEM_INT_ID;
+pub use message_table::REQUEST_INT_ID;
+pub use message_table::REQUEST_LIST_ID;
+pub use message_table::SET_CURRENT_ID;
+pub use message_table::STATUSTEXT_ID;
+pub use message_table::full_of;
+pub use message_table::head_of;
+pub use message_table::is_read;
 pub use read::read_ack;
 pub use read::read_clear_all;
 pub use read::read_count;
@@ -21,16 +33,3 @@ pub use structs::RequestInt;
 pub use structs::RequestList;
 pub use structs::SetCurrent;
 pub use structs::Statustext;
-pub use table::ACK_ID;
-pub use table::CLEAR_ALL_ID;
-pub use table::COUNT_ID;
-pub use table::CURRENT_ID;
-pub use table::Head;
-pub use table::ITEM_INT_ID;
-pub use table::REQUEST_INT_ID;
-pub use table::REQUEST_LIST_ID;
-pub use table::SET_CURRENT_ID;
-pub use table::STATUSTEXT_ID;
-pub use table::full_of;
-pub use table::head_of;
-pub use table::is_read;

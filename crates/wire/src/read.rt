@@ -1,7 +1,7 @@
 // Reading: each message of a payload of any length, by the table's full length and the fields' offsets.
 ghost use mathlib.Core.Path.{_≡_};
 ghost use Rattle.rules.specs.Layouts.{setCurrentId, requestListId, countId, clearAllId, ackId, requestIntId, itemIntId};
-ghost use Rattle.rules.specs.Messages.{decode, itemIn};
+ghost use Rattle.rules.specs.Messages.{decode};
 ghost use Rattle.wire.specs.Structs.{setCurrentMessage, requestListMessage, countMessage, clearAllMessage, ackMessage, requestIntMessage, itemIntMessage};
 ghost use Rattle.item.specs.Patterns.{itemFor, patterns};
 use crate::structs::Ack;
@@ -11,18 +11,18 @@ use crate::structs::ItemInt;
 use crate::structs::RequestInt;
 use crate::structs::RequestList;
 use crate::structs::SetCurrent;
-use crate::table::ACK_ID;
-use crate::table::CLEAR_ALL_ID;
-use crate::table::COUNT_ID;
-use crate::table::ITEM_INT_ID;
-use crate::table::REQUEST_INT_ID;
-use crate::table::REQUEST_LIST_ID;
-use crate::table::SET_CURRENT_ID;
-use crate::table::own_part;
 use fields::byte_at;
 use fields::u16_at;
 use fields::u32_at;
-use item::Item;
+use item_payload::item_at;
+use message_table::ACK_ID;
+use message_table::CLEAR_ALL_ID;
+use message_table::COUNT_ID;
+use message_table::ITEM_INT_ID;
+use message_table::REQUEST_INT_ID;
+use message_table::REQUEST_LIST_ID;
+use message_table::SET_CURRENT_ID;
+use message_table::own_part;
 
 pub fn read_set_current(p: &[u8]) -> SetCurrent
     ensures { λ r. ⌜ setCurrentMessage r ≡ decode setCurrentId (now (p .entry)) ⌝ }
@@ -93,26 +93,6 @@ pub fn read_request_int(p: &[u8]) -> RequestInt
         component: byte_at(own, 3),
         kind: byte_at(own, 4),
     }
-}
-
-// The item in a payload of ITEM_INT, or in the 38 bytes of a stored item.
-pub fn item_at(p: &[u8]) -> Item
-    ensures { λ r. ⌜ r ≡ itemFor (itemIn (now (p .entry))) ⌝ }
-{
-    item::made(
-        u32_at(p, 0),
-        u32_at(p, 4),
-        u32_at(p, 8),
-        u32_at(p, 12),
-        u32_at(p, 16),
-        u32_at(p, 20),
-        u32_at(p, 24),
-        u16_at(p, 28),
-        u16_at(p, 30),
-        byte_at(p, 34),
-        byte_at(p, 36),
-        byte_at(p, 37),
-    )
 }
 
 pub fn read_item_int(p: &[u8]) -> ItemInt

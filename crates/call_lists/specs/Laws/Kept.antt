@@ -14,8 +14,8 @@ use Rattle.rules.specs.Items.{jumpsAmong, fault}
 use Rattle.rules.specs.Model.{Plan, Run, Upload, idle, running, Model, planOf, uploadOf, lengthOf, fresh, nextNumber, elapsed, expected, isLast, whole, wholeOk, isOthers, isOwn, withPlan, put, uploadInRange, inRange}
 use Rattle.rules.specs.Calls.{Call, message, timer, done, Request, chooses, asksList, announces, clears, acknowledges, asksItem, brings, Heard, refuses, request, expiry, commandDone, isKnown, oursOrAll, heardMessage, forUs, heard}
 use Rattle.rules.specs.Step.{Stepped, withUpload, onCount, onValidItem, onItem, onAck, onClear, anyOthers, covered, onList, onRequest, onSetCurrent, onKnown, kindOk, onMessage, onTimer, act, step, run}
-use Rattle.rules.specs.Laws.Tests.{both, either}
-use Rattle.rules.specs.Laws.Kinds.{covered-known}
+use Rattle.rule_laws.specs.Tests.{both, either}
+use Rattle.rule_laws.specs.Kinds.{covered-known}
 use Rattle.call_lists.specs.Laws.Ranged.{Formed, fresh-formed, formed-ranged, upload-formed, plan-formed, empty-formed, choose-formed}
 use Rattle.call_lists.specs.Laws.Search.{advance-formed}
 

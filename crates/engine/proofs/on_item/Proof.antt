@@ -9,9 +9,9 @@ use Rattle.rules.specs.Payload.{Bytes}
 use Rattle.rules.specs.Messages.{Station, Item, itemOf}
 use Rattle.plan.specs.declared.Plan.{Plan}
 use Rattle.plan.specs.declared.Run.{Run}
-use Rattle.plan.specs.Ranges.{uploadRanged}
-use Rattle.plan.specs.Writes.{putAt, length-stays}
-use Rattle.rules.specs.Laws.Layout.{length-itemOf}
+use Rattle.ranges.specs.Ranges.{uploadRanged}
+use Rattle.places.specs.Writes.{putAt, length-stays}
+use Rattle.rule_laws.specs.Layout.{length-itemOf}
 use Rattle.upload.specs.declared.Say.the-variants.{Ack, Ask}
 use Rattle.upload.specs.declared.Turned.{Turned}
 use Rattle.upload.specs.Turns.{ended, keeps, TurnAndStore, turnWith, stored, validItemTurned, itemTurned}

@@ -9,7 +9,7 @@ use Rattle.rules.specs.Model.{wholeOk}
 use Rattle.plan.specs.declared.Plan.{Plan}
 use Rattle.plan.specs.declared.Run.{Run}
 use Rattle.plan.specs.declared.Upload.the-variants.{Running}
-use Rattle.plan.specs.Places.{itemsIn}
+use Rattle.places.specs.Places.{itemsIn}
 use Rattle.upload.specs.declared.Say.the-variants.{Ack, Ask}
 use Rattle.upload.specs.declared.Turned.{Turned}
 use Rattle.upload.specs.Turns.{withUpload, ended, replaced, oneMore, keeps, renews, TurnAndStore, turnWith, validItemTurned}

@@ -7,7 +7,7 @@ use Rattle.rules.specs.Limits.{fence, sizeOf}
 use Rattle.rules.specs.Payload.{Bytes}
 use Rattle.rules.specs.Fence.{fenceOk}
 use Rattle.rules.specs.Model.{wholeOk}
-use Rattle.plan.specs.Places.{itemsIn}
+use Rattle.places.specs.Places.{itemsIn}
 use borrow.Author.Needs.{needs}
 use Rattle.engine.proofs.whole_ok.Statement.{statement}
 use Rattle.engine.proofs.whole_ok.Tie as tie

@@ -16,9 +16,9 @@ use Rattle.rules.specs.Items.{returnPoint}
 use Rattle.rules.specs.Fence.{between, runWith, fenceOk}
 use Rattle.values.specs.Wholes.{number31}
 use Rattle.fence.specs.declared.Reading.{Reading}
-use Rattle.plan.specs.Part.{part}
-use Rattle.plan.specs.Places.{itemAt, itemsIn, offsetOf, offset-within, length-items}
-use Rattle.plan.specs.Stored.{withCommand, points-are}
+use Rattle.places.specs.Part.{part}
+use Rattle.places.specs.Places.{itemAt, itemsIn, offsetOf, offset-within, length-items}
+use Rattle.places.specs.Stored.{withCommand, points-are}
 use Rattle.fence.specs.FenceReading.{readingOf, readAs, readsAs, reads-more, ends-between}
 use Rattle.fence.proofs.fence_ok.Statement.{statement}
 use Rattle.fence.proofs.fence_ok.Tie as tie

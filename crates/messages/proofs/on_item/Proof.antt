@@ -9,13 +9,13 @@ use Rattle.rules.specs.Messages.{Item, station}
 use Rattle.rules.specs.Calls.{brings}
 use Rattle.plan.specs.declared.State.{State}
 use Rattle.plan.specs.View.{planOf}
-use Rattle.plan.specs.Ranges.{uploadRanged, stateRanged}
+use Rattle.ranges.specs.Ranges.{uploadRanged, stateRanged}
 use Rattle.upload.specs.declared.Turned.{Turned}
 use Rattle.upload.specs.Turns.{TurnAndStore, turnWith, itemTurned}
 use Rattle.states.specs.Whole.{turns, knownDone}
 use Rattle.answers.specs.declared.Served.{Served}
 use Rattle.answers.specs.Answered.{AnsweredBy, Handled}
-use Rattle.plan.specs.Ranged.{plan-ranges}
+use Rattle.ranges.specs.Ranged.{plan-ranges}
 use Rattle.messages.proofs.on_item.Statement.{statement}
 use Rattle.messages.proofs.on_item.Tie as tie
 

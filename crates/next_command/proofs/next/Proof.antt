@@ -10,11 +10,11 @@ use Rattle.rules.specs.Limits.{flight, fence, rally, sizeOf, maxFollowed}
 use Rattle.rules.specs.Payload.{Bytes}
 use Rattle.rules.specs.Model.{inRange}
 use Rattle.rules.specs.NextCommand as rules
-use Rattle.rules.specs.Laws.Tests.{both}
+use Rattle.rule_laws.specs.Tests.{both}
 use Rattle.plan.specs.declared.State.{State}
-use Rattle.plan.specs.Places.{itemsIn}
+use Rattle.places.specs.Places.{itemsIn}
 use Rattle.plan.specs.View.{view, planOf}
-use Rattle.plan.specs.Ranges.{uploadRanged, planRanged, countsRanged, stateRanged, ranged-view}
+use Rattle.ranges.specs.Ranges.{uploadRanged, planRanged, countsRanged, stateRanged, ranged-view}
 use Rattle.next_command.specs.declared.Ordered.{Ordered}
 use Rattle.next_command.specs.declared.find.Found.{Found}
 use Rattle.next_command.specs.Finding.{foundOf}

@@ -10,17 +10,17 @@ use Rattle.rules.specs.Limits.{flight, rally, everyKind, unsupported}
 use Rattle.rules.specs.Payload.{Bytes}
 use Rattle.rules.specs.Layouts.{setCurrentId, requestListId, countId, clearAllId, ackId, requestIntId, itemIntId}
 use Rattle.rules.specs.Messages.{Station, station, ack, messageOf, decode}
-use Rattle.rules.specs.Laws.Tests.{either}
+use Rattle.rule_laws.specs.Tests.{either}
 use Rattle.rules.specs.Calls.{Request, chooses, asksList, announces, clears, acknowledges, asksItem, brings, isKnown}
 use Rattle.rules.specs.Step.{says, covered, kindOk}
 use Rattle.item.specs.Patterns.{patterns}
-use Rattle.wire.specs.declared.table.Head.{Head}
+use Rattle.message_table.specs.declared.Head.{Head}
 use Rattle.wire.specs.declared.structs.SetCurrent.{SetCurrent}
 use Rattle.wire.specs.declared.structs.Count.{Count}
 use Rattle.wire.specs.declared.structs.Ack.{Ack}
 use Rattle.wire.specs.declared.structs.RequestInt.{RequestInt}
 use Rattle.wire.specs.declared.structs.ItemInt.{ItemInt}
-use Rattle.wire.specs.Table.{isRead, kindOf, headOf}
+use Rattle.message_table.specs.Table.{isRead, kindOf, headOf}
 use Rattle.wire.specs.Structs.{setCurrentMessage, countMessage, ackMessage, requestIntMessage, itemIntMessage}
 use Rattle.plan.specs.declared.State.{State}
 use Rattle.plan.specs.View.{planOf}

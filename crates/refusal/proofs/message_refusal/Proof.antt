@@ -10,8 +10,8 @@ use Rattle.rules.specs.Limits.{emptyPayload, notRead, notForUs}
 use Rattle.rules.specs.Payload.{Bytes}
 use Rattle.rules.specs.Messages.{Station, station, decode}
 use Rattle.rules.specs.Calls.{refuses, request, message, heard, oursOrAll}
-use Rattle.wire.specs.declared.table.Head.{Head}
-use Rattle.wire.specs.Table.{isRead, targetOf, kindOf, headOf}
+use Rattle.message_table.specs.declared.Head.{Head}
+use Rattle.message_table.specs.Table.{isRead, targetOf, kindOf, headOf}
 use Rattle.refusal.specs.Refusals.{refusalOf, requestOf, roomRefusal, isForUs, heardBy, heard-by, refused-first, room-found, room-passed}
 use Rattle.refusal.proofs.message_refusal.Statement.{statement}
 use Rattle.refusal.proofs.message_refusal.Tie as tie

@@ -9,8 +9,8 @@ use Rattle.rules.specs.Payload.{Bytes}
 use Rattle.rules.specs.Messages.{itemIn}
 use Rattle.item.specs.declared.Item.{Item}
 use Rattle.item.specs.Patterns.{itemFor}
-use Rattle.plan.specs.Part.{part}
-use Rattle.plan.specs.Places.{offsetOf, itemAt, offset-within}
+use Rattle.places.specs.Part.{part}
+use Rattle.places.specs.Places.{offsetOf, itemAt, offset-within}
 use borrow.Author.Needs.{needs}
 use Rattle.storage.proofs.fetch.Statement.{statement}
 use Rattle.storage.proofs.fetch.Tie as tie

@@ -7,10 +7,10 @@ use lib.ListN.{length}
 use Rattle.rules.specs.Limits.{rally, sizeOf, storeBytes}
 use Rattle.rules.specs.Payload.{Bytes}
 use Rattle.rules.specs.Messages.{Item, station, itemInt, itemOf, itemIn}
-use Rattle.plan.specs.Part.{put}
-use Rattle.plan.specs.Places.{itemAt, offsetOf, offset-within}
-use Rattle.plan.specs.Writes.{putAt}
-use Rattle.reply.specs.Written.{BytesOf}
+use Rattle.places.specs.Part.{put}
+use Rattle.places.specs.Places.{itemAt, offsetOf, offset-within}
+use Rattle.places.specs.Writes.{putAt}
+use Rattle.fields.specs.Packed.{BytesOf}
 use Rattle.storage.specs.Kept.{kept-fetched}
 use denote.Ref.{now}
 use Rattle.item.specs.Patterns.{patterns}

@@ -15,13 +15,13 @@ use Rattle.rules.specs.Payload.{Bytes}
 use Rattle.rules.specs.Items.{jumpsAmong}
 use Rattle.rules.specs.NextCommand.{searchFrom}
 use Rattle.rules.specs.NextCommand as rules
-use Rattle.plan.specs.Places.{itemsIn, length-items}
-use Rattle.next_command.specs.declared.meet.Met.{Met}
-use Rattle.next_command.specs.declared.meet.Met.the-variants.{Ends, Stands, Follows}
+use Rattle.places.specs.Places.{itemsIn, length-items}
+use Rattle.plan_search.specs.declared.Met.{Met}
+use Rattle.plan_search.specs.declared.Met.the-variants.{Ends, Stands, Follows}
 use Rattle.next_command.specs.declared.find.Found.{Found}
-use Rattle.next_command.specs.Meeting.{metFor, Followed, follows-known}
+use Rattle.plan_search.specs.Meeting.{metFor, Followed, follows-known}
 use Rattle.next_command.specs.Finding.{foundOf, settledAs, countedAs, settles-last, settles-sooner, follows-on}
-use Rattle.next_command.proofs.meet.Met.{the-type}
+use Rattle.plan_search.proofs.Met.{the-type}
 use Rattle.next_command.proofs.find.find.Statement.{statement}
 use Rattle.next_command.proofs.find.find.Tie as tie
 

@@ -1,7 +1,7 @@
 -- By the variant.
 use mathlib.Core.Path.{sym, ap}
 use borrow.Author.Needs.{needs}
-use Rattle.next_command.specs.declared.meet.Met.{Met}
+use Rattle.plan_search.specs.declared.Met.{Met}
 use Rattle.next_command.specs.Finding.{foundOf, settledAs}
 use Rattle.next_command.proofs.find.settled.Statement.{statement}
 use Rattle.next_command.proofs.find.settled.Tie as tie

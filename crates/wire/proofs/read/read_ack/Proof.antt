@@ -4,7 +4,7 @@ use denote.Ref.{now}
 use Rattle.rules.specs.Layouts.{layoutOf, values, ackId}
 use Rattle.rules.specs.Messages.{station, ack, messageOf, decode}
 use Rattle.fields.specs.Numbers.{as-number}
-use Rattle.wire.proofs.Rows.{decode-own}
+use Rattle.message_table.proofs.Rows.{decode-own}
 use borrow.Author.Needs.{needs}
 use Rattle.wire.proofs.read.read_ack.Statement.{statement}
 use Rattle.wire.proofs.read.read_ack.Tie as tie

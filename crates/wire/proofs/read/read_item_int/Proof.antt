@@ -6,7 +6,7 @@ use Rattle.rules.specs.Layouts.{layoutOf, values, itemIntId}
 use Rattle.rules.specs.Messages.{station, itemInt, messageOf, decode, itemIn}
 use Rattle.item.specs.Patterns.{patterns-of, values-of}
 use Rattle.fields.specs.Numbers.{as-number}
-use Rattle.wire.proofs.Rows.{decode-own}
+use Rattle.message_table.proofs.Rows.{decode-own}
 use borrow.Author.Needs.{needs}
 use Rattle.wire.proofs.read.read_item_int.Statement.{statement}
 use Rattle.wire.proofs.read.read_item_int.Tie as tie

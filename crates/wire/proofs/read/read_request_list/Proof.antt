@@ -4,7 +4,7 @@ use denote.Ref.{now}
 use Rattle.rules.specs.Layouts.{layoutOf, values, requestListId}
 use Rattle.rules.specs.Messages.{station, requestList, messageOf, decode}
 use Rattle.fields.specs.Numbers.{as-number}
-use Rattle.wire.proofs.Rows.{decode-own}
+use Rattle.message_table.proofs.Rows.{decode-own}
 use borrow.Author.Needs.{needs}
 use Rattle.wire.proofs.read.read_request_list.Statement.{statement}
 use Rattle.wire.proofs.read.read_request_list.Tie as tie

@@ -4,7 +4,7 @@ use denote.Ref.{now}
 use Rattle.rules.specs.Layouts.{layoutOf, values, setCurrentId}
 use Rattle.rules.specs.Messages.{station, setCurrent, messageOf, decode}
 use Rattle.fields.specs.Numbers.{as-number}
-use Rattle.wire.proofs.Rows.{decode-own}
+use Rattle.message_table.proofs.Rows.{decode-own}
 use borrow.Author.Needs.{needs}
 use Rattle.wire.proofs.read.read_set_current.Statement.{statement}
 use Rattle.wire.proofs.read.read_set_current.Tie as tie

@@ -1,0 +1,212 @@
+-- At each command that the table names, the row is the one that looking it up finds, by computation. A range of two or three commands is taken
+-- apart into them. Any other command is none of the rows' commands.
+use Prim.Native.Nat.{ℕ, zero, suc, _+_, _≤_, _<_}
+use mathlib.Core.Path.{_≡_, refl, sym, _∙_, subst}
+use mathlib.Core.Logic.{_⊎_, inl, inr, ⊎-elim}
+use mathlib.Core.List.{List, [], _∷_}
+use mathlib.Core.Bool.{Bool, true, false, _&&_, _||_}
+use native.Mathlib.Nat.{eq-or-lt-of-le}
+use native.Mathlib.Omega.{arith}
+use lib.Dec.{T, eqb, ltb, leb}
+use lib.Ieee.Fits.{and-l, and-r}
+use borrow.Author.Needs.{needs}
+use borrow.Author.Tests.{ne-eqb, ltb-true, leb-true, eqb-true}
+use Rattle.rules.specs.Items.{Row, commands, among as anyOf}
+use Rattle.command_table.specs.Table.{lookup, lookedUp, noRow}
+use Rattle.command_table.specs.declared.Listing.{Listing}
+use Rattle.command_table.proofs.row_of.Statement.{statement}
+use Rattle.command_table.proofs.row_of.Tie as tie
+
+-- looking the command n up finds what l says
+abbrev Agrees : Listing → ℕ → Type 0
+Agrees l n = lookedUp n l ≡ lookup n commands
+
+at : {l m : Listing} {n k : ℕ} → m ≡ l → n ≡ k → Agrees l k → Agrees m n
+at {l} {m} {n} {k} e h a = subst (λ (x : Listing). Agrees x n) (sym e) (subst (λ (x : ℕ). Agrees l x) (sym h) a)
+
+-- P at each of w numbers from k on
+abbrev Along : (ℕ → Type 0) → ℕ → ℕ → Type 0
+Along P k zero = Unit
+Along P k (suc w) = P k × Along P (suc k) w
+
+among : (P : ℕ → Type 0) (n k w : ℕ) → k ≤ n → n < k + w → Along P k w → P n
+among P n k zero l h a = absurd (omega arith)
+among P n k (suc w) l h a =
+    ⊎-elim (λ e. subst P e (a .0)) (λ g. among P n (suc k) w g (omega arith) (a .1)) (eq-or-lt-of-le l)
+
+within : {l m : Listing} {n : ℕ} (k w : ℕ) → m ≡ l → k ≤ n → n < k + w → Along (Agrees l) k w → Agrees m n
+within {l} {m} {n} k w e low high a = subst (λ (x : Listing). Agrees x n) (sym e) (among (Agrees l) n k w low high a)
+
+past : {k n : ℕ} → k ≤ n → (n ≡ k → ⊥) → suc k ≤ n
+past l d = ⊎-elim (λ e. absurd (d (sym e))) (λ g. g) (eq-or-lt-of-le l)
+
+-- ---- a command without a row: within some bounds, and none of the numbers ks there
+
+abbrev NoneOf : List ℕ → ℕ → Type 0
+NoneOf [] n = Unit
+NoneOf (k ∷ ks) n = (n ≡ k → ⊥) × NoneOf ks n
+
+-- every row's command is outside the bounds, or one of ks
+abbrev outside : ℕ → ℕ → List ℕ → List Row → Bool
+outside low high ks [] = true
+outside low high ks (r ∷ rs) = (ltb (r .command) low || (leb high (r .command) || anyOf ks (r .command))) && outside low high ks rs
+
+not-among : (ks : List ℕ) (n k : ℕ) → NoneOf ks n → T (anyOf ks k) → k ≡ n → ⊥
+not-among [] n k d t e = t
+not-among (m ∷ ks) n k d t e = go (eqb m k) refl t (λ later. not-among ks n k (d .1) later e)
+  where
+    go : (b : Bool) → eqb m k ≡ b → T (b || anyOf ks k) → (T (anyOf ks k) → ⊥) → ⊥
+    go true h t f = d .0 (sym e ∙ sym (eqb-true m k h))
+    go false h t f = f t
+
+module _ (n low high : ℕ) (ks : List ℕ) (l : low ≤ n) (h : n < high) (d : NoneOf ks n) where
+  apart : (k : ℕ) → T (ltb k low || (leb high k || anyOf ks k)) → k ≡ n → ⊥
+  apart k t e = go (ltb k low) (leb high k) refl refl t
+    where
+      go : (a b : Bool) → ltb k low ≡ a → leb high k ≡ b → T (a || (b || anyOf ks k)) → ⊥
+      go true b p q t = omega (arith, ltb-true k low p, e)
+      go false true p q t = omega (arith, leb-true high k q, e)
+      go false false p q t = not-among ks n k d t e
+
+  unlisted : (rs : List Row) → T (outside low high ks rs) → noRow ≡ lookup n rs
+  unfolding lookup
+  unlisted [] t = refl
+  unlisted (r ∷ rs) t =
+      let first = ltb (r .command) low || (leb high (r .command) || anyOf ks (r .command)) in
+      rw (ne-eqb (r .command) n (apart (r .command) (and-l first (outside low high ks rs) t)))
+      (unlisted rs (and-r first (outside low high ks rs) t))
+
+listed-as-requires : tie.Need-listed-as-requires
+listed-as-requires c κs = search needs
+
+listed-as-requires-2 : tie.Need-listed-as-requires-2
+listed-as-requires-2 c κs = search needs
+
+listed-as-requires-3 : tie.Need-listed-as-requires-3
+listed-as-requires-3 c κs = search needs
+
+listed-as-requires-4 : tie.Need-listed-as-requires-4
+listed-as-requires-4 c κs = search needs
+
+listed-as-requires-5 : tie.Need-listed-as-requires-5
+listed-as-requires-5 c κs = search needs
+
+listed-as-requires-6 : tie.Need-listed-as-requires-6
+listed-as-requires-6 c κs = search needs
+
+listed-as-requires-7 : tie.Need-listed-as-requires-7
+listed-as-requires-7 c κs = search needs
+
+listed-as-requires-8 : tie.Need-listed-as-requires-8
+listed-as-requires-8 c κs = search needs
+
+listed-as-requires-9 : tie.Need-listed-as-requires-9
+listed-as-requires-9 c κs = search needs
+
+listed-as-requires-10 : tie.Need-listed-as-requires-10
+listed-as-requires-10 c κs = search needs
+
+listed-as-requires-11 : tie.Need-listed-as-requires-11
+listed-as-requires-11 c κs = search needs
+
+returns : tie.Need-returns
+unfolding lookup
+returns c = ⊎-elim (λ h. at (c .listed-as .ensures) h refl) (λ h. at (c .listed-as .ensures) h refl) (c .before .match .keys3)
+
+returns-2 : tie.Need-returns-2
+unfolding lookup
+returns-2 c = at (c .listed-as2 .ensures) (c .before .match .keys4) refl
+
+returns-3 : tie.Need-returns-3
+unfolding lookup
+returns-3 c = at (c .listed-as3 .ensures) (c .before .match .keys5) refl
+
+returns-4 : tie.Need-returns-4
+unfolding lookup
+returns-4 c = at (c .listed-as4 .ensures) (c .before .match .keys6) refl
+
+returns-5 : tie.Need-returns-5
+unfolding lookup
+returns-5 c = at (c .listed-as5 .ensures) (c .before .match .keys7) refl
+
+returns-6 : tie.Need-returns-6
+unfolding lookup
+returns-6 c = at (c .listed-as6 .ensures) (c .before .match .keys8) refl
+
+returns-7 : tie.Need-returns-7
+unfolding lookup
+returns-7 c = at (c .listed-as7 .ensures) (c .before .match .keys9) refl
+
+returns-8 : tie.Need-returns-8
+unfolding lookup
+returns-8 c = within 5001 2 (c .listed-as8 .ensures) (past (c .before .before .if4 .left) (c .before .before .before .before .before .before .match .rest .0 .1)) (c .before .if5 .taken) (refl, (refl, tt))
+
+returns-9 : tie.Need-returns-9
+unfolding lookup
+returns-9 c = within 5003 2 (c .listed-as9 .ensures) (c .before .before .if5 .left) (c .before .if6 .taken) (refl, (refl, tt))
+
+returns-10 : tie.Need-returns-10
+unfolding lookup
+returns-10 c = unlisted (c .before .before .args .command) 0 16 [] (omega arith) (c .if1 .taken) tt commands tt
+
+returns-11 : tie.Need-returns-11
+unfolding lookup
+returns-11 c =
+    let to183 = c .before .before .before .before .match .rest .0 .0 in
+    let to177 = to183 .0 .0 in
+    let to114 = to177 .0 .0 in
+    unlisted (c .before .before .before .before .before .args .command) 23 5000 (31 ∷ 112 ∷ 114 ∷ 115 ∷ 177 ∷ 178 ∷ 183 ∷ [])
+    (c .before .if3 .left)
+    (c .if4 .taken)
+    ((λ e. to114 .0 .1 (inr e)), ((λ e. to114 .1 (inl e)), ((λ e. to114 .1 (inr e)), (to177 .0 .1, (to177 .1, (to183 .0 .1, (to183 .1, tt)))))))
+    commands
+    tt
+
+returns-12 : tie.Need-returns-12
+unfolding lookup
+returns-12 c =
+    let rest = c .before .before .before .before .before .before .match .rest in
+    let start = c .before .before .before .before .before .before .before in
+    unlisted (start .args .command) 5005 65536 (5100 ∷ []) (c .if6 .left) (omega arith) (rest .1, tt) commands tt
+
+returns-13 : tie.Need-returns-13
+unfolding lookup
+returns-13 c =
+    ⊎-elim (λ k. ⊎-elim (λ h. at (c .listed-as10 .ensures) h refl) (λ h. at (c .listed-as10 .ensures) h refl) (k .keys2))
+    (λ k. within 20 3 (c .listed-as10 .ensures) (k .2 .left) (k .3 .taken) (refl, (refl, (refl, tt)))) (c .before .match .came)
+
+returns-14 : tie.Need-returns-14
+unfolding lookup
+returns-14 c =
+    ⊎-elim (λ k. at (c .listed-as11 .ensures) (k .keys1) refl)
+    (λ k. within 18 2 (c .listed-as11 .ensures) (past (past (k .1 .left) (k .0 .rest .0 .0 .0 .0 .0 .0 .0 .0 .1)) (λ e. k .0 .rest .0 .0 .0 .0 .0 .0 .0 .1 (inl e))) (k .2 .taken) (refl, (refl, tt))) (c .before .match .came)
+
+pub row-of-spec : {M : Type 1} → statement M
+row-of-spec =
+    tie.close
+    (tie.spec
+    listed-as-requires
+    listed-as-requires-2
+    listed-as-requires-3
+    listed-as-requires-4
+    listed-as-requires-5
+    listed-as-requires-6
+    listed-as-requires-7
+    listed-as-requires-8
+    listed-as-requires-9
+    listed-as-requires-10
+    listed-as-requires-11
+    returns
+    returns-2
+    returns-3
+    returns-4
+    returns-5
+    returns-6
+    returns-7
+    returns-8
+    returns-9
+    returns-10
+    returns-11
+    returns-12
+    returns-13
+    returns-14)

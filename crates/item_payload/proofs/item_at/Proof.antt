@@ -1,0 +1,100 @@
+-- `item_payload::item_at` meets its contract: the item is made of the numbers at its fields' offsets.
+use mathlib.Core.Path.{_∙_}
+use denote.Ref.{now}
+use Rattle.rules.specs.Layouts.{layoutOf, values}
+use Rattle.rules.specs.Messages.{itemIn}
+use Rattle.item.specs.Patterns.{itemFor}
+use Rattle.fields.specs.Numbers.{as-number}
+use borrow.Author.Needs.{needs}
+use Rattle.item_payload.proofs.item_at.Statement.{statement}
+use Rattle.item_payload.proofs.item_at.Tie as tie
+
+u32-at-requires : tie.Need-u32-at-requires
+u32-at-requires c κs = search needs
+
+u32-at-requires-2 : tie.Need-u32-at-requires-2
+u32-at-requires-2 c κs = search needs
+
+u32-at-requires-3 : tie.Need-u32-at-requires-3
+u32-at-requires-3 c κs = search needs
+
+u32-at-requires-4 : tie.Need-u32-at-requires-4
+u32-at-requires-4 c κs = search needs
+
+u32-at-requires-5 : tie.Need-u32-at-requires-5
+u32-at-requires-5 c κs = search needs
+
+u32-at-requires-6 : tie.Need-u32-at-requires-6
+u32-at-requires-6 c κs = search needs
+
+u32-at-requires-7 : tie.Need-u32-at-requires-7
+u32-at-requires-7 c κs = search needs
+
+u16-at-requires : tie.Need-u16-at-requires
+u16-at-requires c κs = search needs
+
+u16-at-requires-2 : tie.Need-u16-at-requires-2
+u16-at-requires-2 c κs = search needs
+
+byte-at-requires : tie.Need-byte-at-requires
+byte-at-requires c κs = search needs
+
+byte-at-requires-2 : tie.Need-byte-at-requires-2
+byte-at-requires-2 c κs = search needs
+
+byte-at-requires-3 : tie.Need-byte-at-requires-3
+byte-at-requires-3 c κs = search needs
+
+made-requires : tie.Need-made-requires
+made-requires c κs = search needs
+
+returns : tie.Need-returns
+unfolding itemIn layoutOf values
+returns c =
+    let kind = c .before in
+    let autocontinue = kind .before in
+    let frame = autocontinue .before in
+    let command = frame .before in
+    let seq = command .before in
+    let z = seq .before in
+    let y = z .before in
+    let x = y .before in
+    let four = x .before in
+    let three = four .before in
+    let two = three .before in
+    let one = two .before in
+    let p = now (one .before .before .args .p) in
+    c .made .ensures
+    ∙ (λ i. itemFor (record {
+      param1 = (one .u32-at .ensures) i;
+      param2 = (two .u32-at2 .ensures) i;
+      param3 = (three .u32-at3 .ensures) i;
+      param4 = (four .u32-at4 .ensures) i;
+      x = (x .u32-at5 .ensures) i;
+      y = (y .u32-at6 .ensures) i;
+      z = (z .u32-at7 .ensures) i;
+      seq = (seq .u16-at .ensures) i;
+      command = (command .u16-at2 .ensures) i;
+      frame = as-number 34 p (frame .byte-at .ensures) i;
+      autocontinue = as-number 36 p (autocontinue .byte-at2 .ensures) i;
+      kind = as-number 37 p (kind .byte-at3 .ensures) i;
+    }))
+
+pub item-at-spec : {M : Type 1} → statement M
+item-at-spec =
+    tie.close
+    (tie.spec
+    u32-at-requires
+    u32-at-requires-2
+    u32-at-requires-3
+    u32-at-requires-4
+    u32-at-requires-5
+    u32-at-requires-6
+    u32-at-requires-7
+    u16-at-requires
+    u16-at-requires-2
+    byte-at-requires
+    byte-at-requires-2
+    byte-at-requires-3
+    made-requires
+    returns)

@@ -1,0 +1,62 @@
+-- A message's row in the table of layouts, and what the table's other columns say: read here or not, target, kind.
+use Prim.Native.Nat.{ℕ, suc}
+use mathlib.Core.List.{List, [], _∷_, map}
+use mathlib.Core.Bool.{Bool, true, false, cond}
+use lib.Dec.{eqb}
+use Rattle.rules.specs.Limits.{flight}
+use Rattle.rules.specs.Layouts.{Layout, layouts}
+use Rattle.message_table.specs.declared.Head.{Head}
+use Rattle.rules.specs.Messages.{Station, station, Message, setCurrent, current, requestList, count, clearAll, ack, requestInt, itemInt, statustext, unknown}
+
+abbrev pub ids : List ℕ
+ids = map (λ (l : Layout). l .id) layouts
+
+-- the number of the first row with an id; the number of rows where there is none
+abbrev pub rowIn : List ℕ → ℕ → ℕ
+rowIn [] id = 0
+rowIn (n ∷ ns) id = cond (eqb n id) 0 (suc (rowIn ns id))
+
+unfoldable pub rowOf : ℕ → ℕ
+rowOf id = rowIn ids id
+
+-- "Ids 42 and 253 are only written."
+abbrev pub isRead : Message → Bool
+isRead (setCurrent to seq) = true
+isRead (current seq total state mode mission fence rally) = false
+isRead (requestList to kind) = true
+isRead (count to n kind planNumber) = true
+isRead (clearAll to kind) = true
+isRead (ack to result kind planNumber) = true
+isRead (requestInt to seq kind) = true
+isRead (itemInt to isCurrent item) = true
+isRead (statustext severity text id chunk) = false
+isRead unknown = false
+
+-- the target of a message; one without a target is for all
+abbrev pub targetOf : Message → Station
+targetOf (setCurrent to seq) = to
+targetOf (current seq total state mode mission fence rally) = station 0 0
+targetOf (requestList to kind) = to
+targetOf (count to n kind planNumber) = to
+targetOf (clearAll to kind) = to
+targetOf (ack to result kind planNumber) = to
+targetOf (requestInt to seq kind) = to
+targetOf (itemInt to isCurrent item) = to
+targetOf (statustext severity text id chunk) = station 0 0
+targetOf unknown = station 0 0
+
+-- the kind of plan that a message speaks of: flight where it has no such field
+abbrev pub kindOf : Message → ℕ
+kindOf (setCurrent to seq) = flight
+kindOf (current seq total state mode mission fence rally) = flight
+kindOf (requestList to kind) = kind
+kindOf (count to n kind planNumber) = kind
+kindOf (clearAll to kind) = kind
+kindOf (ack to result kind planNumber) = kind
+kindOf (requestInt to seq kind) = kind
+kindOf (itemInt to isCurrent item) = item .kind
+kindOf (statustext severity text id chunk) = flight
+kindOf unknown = flight
+
+abbrev pub headOf : Message → Head
+headOf m = record { system = targetOf m .system; component = targetOf m .component; kind = kindOf m }

@@ -1,0 +1,147 @@
+-- The fetched item is the stored one; each test decides one of the look's. A valid jump has room, a target of 16 bits and a repeat that the code reads.
+use Prim.Native.Nat.{ℕ, _<_}
+use native.Mathlib.Omega.{arith}
+use mathlib.Core.Path.{_≡_, refl, sym, ap, _∙_}
+use mathlib.Core.List.{List}
+use mathlib.Core.Bool.{Bool, true, false, not, cond}
+use lib.ListN.{getD}
+use lib.IntN.{pos, negsuc}
+use lib.Signed.{leZ}
+use borrow.Author.Tests.{lt-ltb, eq-eqb, ne-eqb, leb-true, not-false}
+use borrow.Author.Needs.{needs}
+use Rattle.rules.specs.Limits.{flight, halfClock, forever, maxRuns, maxJumps, accepted}
+use Rattle.rules.specs.Messages as rules
+use Rattle.rules.specs.Values as values
+use Rattle.rules.specs.Values.{integer, notWhole, float, wholeOf, wholeFrom, wholeNumber}
+use Rattle.rules.specs.Items.{isJump, fault}
+use Rattle.rules.specs.NextCommand.{commandOf, targetOf, repeatOf, passedOver}
+use Rattle.rule_laws.specs.Tests.{both}
+use Rattle.item.specs.declared.Item.{Item}
+use Rattle.values.specs.declared.Whole.{Whole}
+use Rattle.item.specs.Patterns.{itemFor, patterns, patterns-of, values-of}
+use Rattle.values.specs.Wholes.{whole32, number31}
+use Rattle.plan_search.specs.declared.Command.{Command}
+use Rattle.plan_search.specs.declared.Command.the-variants.{Stuck}
+use Rattle.plan_search.specs.declared.Met.the-variants.{Ends, Stands, Follows}
+use Rattle.plan_search.specs.declared.Look.{Look}
+use Rattle.plan_search.specs.declared.Look.the-variants.{Meets, PassedOver}
+use Rattle.plan_search.specs.Orders.{commandFor}
+use Rattle.plan_search.specs.Valid.{ServoFits, valid-servo, ValidJump, valid-jump, target-below}
+use Rattle.plan_search.specs.Meeting.{isCounted, lookAs, jumpAs}
+use Rattle.plan_search.proofs.look_at.Statement.{statement}
+use Rattle.plan_search.proofs.look_at.Tie as tie
+
+-- the code's reading of a valid repeat decides as the rules' does
+jump-is : (w : values.Whole) (target j runs : ℕ) → wholeFrom forever (pos maxRuns) w ≡ true
+    → jumpAs (whole32 w) target j runs ≡ cond (passedOver w runs) PassedOver (Meets (Follows j target (isCounted w)))
+unfolding jumpAs whole32 wholeFrom passedOver isCounted
+jump-is (integer (pos r)) target j runs e = rw (lt-ltb r halfClock (omega (arith, leb-true r maxRuns e)))
+jump-is (integer (negsuc r)) target j runs e = rw (lt-ltb r halfClock (omega (arith, leb-true r 0 (both (leZ forever (negsuc r)) true e .0))))
+jump-is notWhole target j runs e = refl
+
+module _ (size : ℕ) (counts : List ℕ) (n j : ℕ) (item : Item) (i : rules.Item) (is : item ≡ itemFor i) (v : ℕ) (ev : v ≡ fault flight size n j (patterns item)) where
+  judged : v ≡ fault flight size n j i
+  judged = ev ∙ ap (fault flight size n j) (patterns-of is)
+
+  breaks : (v ≡ 0 → ⊥) → Meets (Ends Stuck) ≡ lookAs size counts n j i
+  unfolding lookAs
+  breaks bad = rw (← judged, ne-eqb v accepted bad)
+
+  module _ (ok : v ≡ 0) where
+    fine : fault flight size n j i ≡ accepted
+    fine = sym judged ∙ ok
+
+    servo-fits : ServoFits (patterns item)
+    servo-fits = valid-servo size n j (patterns item) (sym ev ∙ ok)
+
+    module _ (b : Bool) (eb : b ≡ isJump (patterns item)) where
+      jumps : b ≡ isJump i
+      jumps = eb ∙ ap isJump (patterns-of is)
+
+      stands : (command : Command) → not b ≡ true → command ≡ commandFor (commandOf n (patterns item)) → Meets (Stands n command) ≡ lookAs size counts n j i
+      unfolding lookAs
+      stands command other ec =
+          rw (eq-eqb (fault flight size n j i) accepted fine, ← jumps, other, ec, patterns-of is)
+
+      module _ (jump : not b ≡ false) where
+        valid : ValidJump size n j i
+        valid = valid-jump size n j i fine (sym jumps ∙ not-false b jump)
+
+        room : j < maxJumps
+        room = valid .room
+
+        target-is : (t : ℕ) → t ≡ number31 (wholeNumber (wholeOf (float (patterns item .param1)))) → size < 65536 → t ≡ targetOf i
+        unfolding number31
+        target-is t et few =
+            let below = target-below size n (wholeOf (float (i .param1))) (valid .target) in
+            et ∙ ap (λ (p : rules.Item). number31 (targetOf p)) (patterns-of is) ∙ rw (lt-ltb (targetOf i) halfClock (omega arith))
+
+        target-fits : (t : ℕ) → t ≡ number31 (wholeNumber (wholeOf (float (patterns item .param1)))) → size < 65536 → t < 65536
+        target-fits t et few = omega (arith, target-is t et few, target-below size n (wholeOf (float (i .param1))) (valid .target))
+
+        follows : (t : ℕ) (repeat : Whole) (r : Look) → t ≡ number31 (wholeNumber (wholeOf (float (patterns item .param1)))) → size < 65536
+            → repeat ≡ whole32 (repeatOf (patterns item)) → r ≡ jumpAs repeat t j (getD counts j 0) → r ≡ lookAs size counts n j i
+        unfolding lookAs
+        follows t repeat r et few ew er =
+            er
+            ∙ ap (λ (k : ℕ). jumpAs repeat k j (getD counts j 0)) (target-is t et few)
+            ∙ ap (λ (w : Whole). jumpAs w (targetOf i) j (getD counts j 0)) (ew ∙ ap (λ (p : rules.Item). whole32 (repeatOf p)) (patterns-of is))
+            ∙ jump-is (repeatOf i) (targetOf i) j (getD counts j 0) (valid .repeats)
+            ∙ rw (eq-eqb (fault flight size n j i) accepted fine, ← jumps, jump)
+
+fetch-requires : tie.Need-fetch-requires
+fetch-requires c κs = search needs
+
+verdict-requires : tie.Need-verdict-requires
+verdict-requires c κs = values-of (c .fetch .ensures)
+
+array-read-runs : tie.Need-array-read-runs
+array-read-runs c = search (room, needs)
+
+returns : tie.Need-returns
+returns c = search (breaks, needs)
+
+is-jump-requires : tie.Need-is-jump-requires
+is-jump-requires c κs = search needs
+
+command-of-requires : tie.Need-command-of-requires
+command-of-requires c κs = (values-of (c .before .before .before .before .fetch .ensures), search (servo-fits, needs))
+
+returns-2 : tie.Need-returns-2
+returns-2 c = search (stands, needs)
+
+mul-runs : tie.Need-mul-runs
+mul-runs c = search needs
+
+repeat-of-requires : tie.Need-repeat-of-requires
+repeat-of-requires c κs = values-of (c .before .before .before .before .fetch .ensures)
+
+number1-requires : tie.Need-number1-requires
+number1-requires c κs = values-of (c .before .before .before .before .before .fetch .ensures)
+
+cast-jump-look : tie.Need-cast-jump-look
+cast-jump-look c = record { fits = search (target-fits, needs) }
+
+jump-look-requires : tie.Need-jump-look-requires
+jump-look-requires c κs = search needs
+
+returns-3 : tie.Need-returns-3
+returns-3 c = search (follows, needs)
+
+pub look-at-spec : {M : Type 1} → statement M
+look-at-spec =
+    tie.close
+    (tie.spec
+    fetch-requires
+    verdict-requires
+    returns
+    is-jump-requires
+    command-of-requires
+    returns-2
+    mul-runs
+    array-read-runs
+    repeat-of-requires
+    number1-requires
+    cast-jump-look
+    jump-look-requires
+    returns-3)

@@ -1,0 +1,58 @@
+-- The ranges of outcome 15 over a state alone; `ranged-view` has them as the rules' own.
+use mathlib.Core.Path.{_≡_, refl}
+use mathlib.Core.List.{List}
+use mathlib.Core.Bool.{Bool, true, _&&_, _||_, and-true, and-assoc}
+use Prim.Native.Nat.{ℕ}
+use lib.ListN.{getD}
+use lib.Dec.{eqb, leb, ltb}
+use Rattle.rules.specs.Limits.{flight, fence, rally, sizeOf, maxRepeats, maxRuns}
+use Rattle.rules.specs.Payload.{Bytes}
+use Rattle.rules.specs.Model.{every, inRange, uploadInRange}
+use Rattle.plan.specs.declared.State.{State}
+use Rattle.plan.specs.declared.Plan.{Plan}
+use Rattle.plan.specs.declared.Run.{Run}
+use Rattle.plan.specs.declared.Upload.{Upload}
+use Rattle.plan.specs.declared.Upload.the-variants.{Idle, Running}
+use Rattle.places.specs.Places.{length-items}
+use Rattle.plan.specs.View.{emptyPlan, view, planOf, uploadIn}
+
+-- "a running upload's count 1 to size, its next number below its count, its repeats 0 to 5"
+abbrev pub runRanged : (size : ℕ) → Run → Bool
+runRanged size r = leb 1 (r .count) && leb (r .count) size && ltb (r .next) (r .count) && leb (r .repeats) maxRepeats
+
+abbrev pub uploadRanged : (size : ℕ) → Upload → Bool
+uploadRanged size Idle = true
+uploadRanged size (Running r) = runRanged size r
+
+-- "a plan's length at most its size"
+unfoldable pub planRanged : (size : ℕ) → Plan → Bool
+planRanged size p = leb (p .len) size && uploadRanged size (p .upload)
+
+-- "jump counts 0 to 32767"
+unfoldable pub countsRanged : List ℕ → Bool
+countsRanged counts = every (λ (n : ℕ). leb n maxRuns) counts
+
+-- "the current item below the flight length, or 0"
+-- the plans of the three kinds
+abbrev pub plansRanged : List Plan → Bool
+plansRanged plans =
+    planRanged (sizeOf flight) (getD plans flight emptyPlan)
+    && planRanged (sizeOf fence) (getD plans fence emptyPlan)
+    && planRanged (sizeOf rally) (getD plans rally emptyPlan)
+
+unfoldable pub stateRanged : State → Bool
+stateRanged st =
+    planRanged (sizeOf flight) (planOf st flight)
+    && planRanged (sizeOf fence) (planOf st fence)
+    && planRanged (sizeOf rally) (planOf st rally)
+    && (ltb (st .current) (planOf st flight .len) || eqb (st .current) 0)
+    && countsRanged (st .counts)
+
+upload-ranged : (store : Bytes) (half : Bool) (kind : ℕ) (u : Upload) → uploadInRange kind (uploadIn store half kind u) ≡ uploadRanged (sizeOf kind) u
+unfolding uploadInRange uploadIn
+upload-ranged store half kind Idle = refl
+upload-ranged store half kind (Running r) = simp length-items
+
+pub ranged-view : (st : State) (store : Bytes) → inRange (view st store) ≡ stateRanged st
+unfolding inRange view stateRanged planRanged countsRanged
+ranged-view st store = simp (length-items, upload-ranged, and-true, and-assoc)

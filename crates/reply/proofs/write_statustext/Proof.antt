@@ -1,0 +1,38 @@
+-- `reply::write_statustext` meets its contract: its bytes are the message's, they are written trimmed, and they read back.
+use denote.Ref.{now}
+use Rattle.rules.specs.Layouts.{layoutOf}
+use Rattle.wire.specs.Structs.{statustextMessage}
+use Rattle.reply.proofs.Packing.{ready, wrote-as}
+use borrow.Author.Needs.{needs}
+use Rattle.reply.proofs.write_statustext.Statement.{statement}
+use Rattle.reply.proofs.write_statustext.Tie as tie
+
+statustext-bytes-requires : tie.Need-statustext-bytes-requires
+statustext-bytes-requires c κs = search needs
+
+slice-aggregate-write-trimmed : tie.Need-slice-aggregate-write-trimmed
+slice-aggregate-write-trimmed c = search needs
+
+write-trimmed-requires : tie.Need-write-trimmed-requires
+unfolding layoutOf
+write-trimmed-requires c κs =
+    let a = c .before .before .before .before .args in
+    ready (statustextMessage (a .m)) (c .before .before .statustext-bytes .result) tt (c .before .before .statustext-bytes .ensures)
+
+same-length : tie.Need-same-length
+same-length c = search needs
+
+returns : tie.Need-returns
+returns c =
+    let a = c .before .before .before .before .before .before .before .args in
+    wrote-as (statustextMessage (a .m)) _ (now (a .out)) _ _ (c .before .before .before .before .before .statustext-bytes .ensures) (c .before .before .write-trimmed .ensures)
+
+pub write-statustext-spec : {M : Type 1} → statement M
+write-statustext-spec =
+    tie.close
+    (tie.spec
+    statustext-bytes-requires
+    slice-aggregate-write-trimmed
+    write-trimmed-requires
+    same-length
+    returns)

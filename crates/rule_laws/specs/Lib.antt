@@ -1,0 +1,15 @@
+-- Laws of the rules' definitions, proved here once for the crates above, and reading back. Who reads the rules can pass the laws over.
+pub mod Tests
+pub mod Lists
+pub mod Numbers
+pub mod Trim
+pub mod Layout
+pub mod Decode
+pub mod Kinds
+pub mod Written
+pub mod Heard
+pub mod Fitting
+pub mod Fitted
+pub mod Replies
+pub mod Refused
+pub mod ReadBack

@@ -1,0 +1,2 @@
+-- What the contract of trimming cites beside the rules.
+pub mod Written
