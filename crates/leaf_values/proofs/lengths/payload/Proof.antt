@@ -1,13 +1,11 @@
--- `wire_lengths::payload` meets its contract: `i` stays at most 300, and the array keeps its length.
+-- `leaf_values::lengths::payload` meets its contract: `i` stays at most 300.
 use Prim.Native.Nat.{_-_, _≤_}
-use mathlib.Core.Path.{_≡_}
-use lib.ListN.{length}
 use borrow.Author.Needs.{needs}
-use Rattle.wire_lengths.proofs.payload.Statement.{statement}
-use Rattle.wire_lengths.proofs.payload.Tie as tie
+use Rattle.leaf_values.proofs.lengths.payload.Statement.{statement}
+use Rattle.leaf_values.proofs.lengths.payload.Tie as tie
 
 abbrev Inv-loop : tie.InvT-loop
-Inv-loop p₀ i₀ p i = (i ≤ 300) × (length p ≡ 300)
+Inv-loop p₀ i₀ p i = i ≤ 300
 
 abbrev μ-loop : tie.MeasureT-loop
 μ-loop p₀ i₀ p i = 300 - i
