@@ -1,0 +1,69 @@
+-- Patterns that are filled, piece by piece, and names that are none of those listed.
+use Prim.Native.Nat.{ℕ, _+_, _-_, _%_, _<_, _≤_}
+use mathlib.Core.Path.{_≡_, sym}
+use mathlib.Core.List.{List, [], _∷_}
+use native.Mathlib.Numerals.{add-one}
+use native.Mathlib.Omega.{arith}
+use lib.ListN.{length, getD, List·getD-eq-default}
+use borrow.Author.Tests.{ne-eqb, lt-ltb, le-ltb}
+use Rattle.text.specs.Added.{Adds}
+use Rattle.text.specs.Laws.{adds-both, adds-after}
+use Rattle.text.specs.Words.{ascii}
+use Rattle.words.specs.Filled.{magnitude, unitsText, degreesText, piece, takes, taken, filledTo, filled}
+use Rattle.words.specs.Names.{kindName, resultName, commandName}
+
+pub no-number : (l : List ℕ) (i : ℕ) → length l ≤ i → 0 ≡ getD l i 0
+no-number l i h = sym (List·getD-eq-default l 0 h)
+
+module _ (n : ℕ) where
+  pub positive : n % 4294967296 < 2147483648 → n % 4294967296 ≡ magnitude n
+  unfolding magnitude
+  positive h = rw (lt-ltb (n % 4294967296) 2147483648 h)
+
+  pub negative : 2147483648 ≤ n % 4294967296 → 4294967296 - n % 4294967296 ≡ magnitude n
+  unfolding magnitude
+  negative h = rw (le-ltb (n % 4294967296) 2147483648 h)
+
+  module _ (m : ℕ) (is : m ≡ magnitude n) (before between after : List ℕ) (at k r : ℕ) where
+    pub east : n % 4294967296 < 2147483648 → Adds (unitsText m) before at after r → Adds (degreesText n) before at after r
+    unfolding degreesText
+    east h adds = rw (lt-ltb (n % 4294967296) 2147483648 h, ← is) adds
+
+    pub west : 2147483648 ≤ n % 4294967296 → Adds (45 ∷ []) before at between k → Adds (unitsText m) between k after r → Adds (degreesText n) before at after r
+    unfolding degreesText
+    west h minus units = rw (le-ltb (n % 4294967296) 2147483648 h, ← is) (adds-after 45 (unitsText m) minus units)
+
+pub plain-piece : (b n : ℕ) (word before after : List ℕ) (at r : ℕ) → (b ≡ 35 → ⊥) → (b ≡ 38 → ⊥) → (b ≡ 64 → ⊥) → Adds (b ∷ []) before at after r → Adds (piece b n word) before at after r
+unfolding piece
+plain-piece b n word before after at r x y z adds = rw (ne-eqb b 35 x, ne-eqb b 38 y, ne-eqb b 64 z) adds
+
+pub takes-none : (b : ℕ) → (b ≡ 35 → ⊥) → (b ≡ 38 → ⊥) → 0 ≡ takes b
+unfolding takes
+takes-none b x y = rw (ne-eqb b 35 x, ne-eqb b 38 y)
+
+pub filled-more
+    : (pattern ns word before between after : List ℕ) (at i k n m r t : ℕ)
+    → k ≡ taken pattern i
+    → n ≡ getD ns k 0
+    → t ≡ takes (getD pattern i 0)
+    → Adds (filledTo pattern ns word i) before at between m
+    → Adds (piece (getD pattern i 0) n word) between m after r
+    → (k + t ≡ taken pattern (i + 1)) × Adds (filledTo pattern ns word (i + 1)) before at after r
+unfolding taken filledTo
+filled-more pattern ns word before between after at i k n m r t used number taking first second =
+    (rw (add-one, used, taking), rw (add-one, ← used, ← number) (adds-both first second))
+
+pub all-filled : (pattern ns word before after : List ℕ) (at i r : ℕ) → i ≤ length pattern → length pattern ≤ i → Adds (filledTo pattern ns word i) before at after r → Adds (filled pattern ns word) before at after r
+all-filled pattern ns word before after at i r most least adds = let all : length pattern ≡ i = omega arith in rw all adds
+
+pub other-kind : (k : ℕ) → (k ≡ 0 → ⊥) → (k ≡ 1 → ⊥) → (k ≡ 2 → ⊥) → ascii "unknown" ≡ kindName k
+unfolding kindName
+other-kind k a b c = rw (ne-eqb k 0 a, ne-eqb k 1 b, ne-eqb k 2 c)
+
+pub other-result : (r : ℕ) → (r ≡ 0 → ⊥) → (r ≡ 13 → ⊥) → (r ≡ 14 → ⊥) → (r ≡ 15 → ⊥) → ascii "refused" ≡ resultName r
+unfolding resultName
+other-result r a b c d = rw (ne-eqb r 0 a, ne-eqb r 14 c, ne-eqb r 13 b, ne-eqb r 15 d)
+
+pub other-command : (n : ℕ) → (n ≡ 16 → ⊥) → (n ≡ 21 → ⊥) → (n ≡ 22 → ⊥) → (n ≡ 5003 → ⊥) → ascii "command" ≡ commandName n
+unfolding commandName
+other-command n a b c d = rw (ne-eqb n 16 a, ne-eqb n 21 b, ne-eqb n 22 c, ne-eqb n 5003 d)

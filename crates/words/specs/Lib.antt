@@ -1,0 +1,3 @@
+-- Messages in words.
+pub mod Filled
+pub mod Names

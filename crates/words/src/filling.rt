@@ -1,0 +1,91 @@
+// A pattern of text, filled: each `#` is the next number of a list in decimal, each `&` the next one as degrees, and each `@` a word.
+ghost use Prim.Native.Nat.{_<_};
+ghost use mathlib.Core.Path.{_≡_};
+ghost use lib.ListN.{getD};
+ghost use Rattle.text.specs.Added.{Adds};
+ghost use Rattle.words.specs.Filled.{degreesText, magnitude as Filled·magnitude, unitsText, piece, takes as Filled·takes, filled};
+
+// The next number, or 0 past the list's end.
+fn number_at(list: &[u64], i: usize) -> u64
+    ensures { λ r. ⌜ r ≡ getD (now (list .entry)) i 0 ⌝ }
+{
+    if i < list.len() { list[i] } else { 0 }
+}
+
+// How far a signed number of 32 bits is from 0.
+fn magnitude(n: u64) -> u64
+    ensures { λ r. ⌜ r ≡ Filled·magnitude n ⌝ }
+{
+    let bits = n % 0x1_0000_0000;
+    if bits < 0x8000_0000 {
+        return bits;
+    }
+    0x1_0000_0000 - bits
+}
+
+// A count of ten-millionths with its seven decimals.
+fn put_units(out: &mut [u8], at: usize, n: u64) -> usize
+    ensures { λ r. ⌜ Adds (unitsText n) (now (out .entry)) at (now (out .exit)) r ⌝ }
+{
+    let decimals = [
+        b'.',
+        48 + (n / 1000000 % 10) as u8,
+        48 + (n / 100000 % 10) as u8,
+        48 + (n / 10000 % 10) as u8,
+        48 + (n / 1000 % 10) as u8,
+        48 + (n / 100 % 10) as u8,
+        48 + (n / 10 % 10) as u8,
+        48 + (n % 10) as u8,
+    ];
+    let end = text::put_number(out, at, n / 10000000);
+    text::put(out, end, &decimals)
+}
+
+// Degrees from the 32 bits of a signed number of ten-millionths.
+fn put_degrees(out: &mut [u8], at: usize, n: u64) -> usize
+    ensures { λ r. ⌜ Adds (degreesText n) (now (out .entry)) at (now (out .exit)) r ⌝ }
+{
+    if n % 0x1_0000_0000 < 0x8000_0000 {
+        return put_units(out, at, magnitude(n));
+    }
+    let end = text::put_byte(out, at, b'-');
+    put_units(out, end, magnitude(n))
+}
+
+// What one byte of the pattern stands for.
+fn put_piece(out: &mut [u8], at: usize, byte: u8, n: u64, word: &[u8]) -> usize
+    ensures { λ r. ⌜ Adds (piece byte n (now (word .entry))) (now (out .entry)) at (now (out .exit)) r ⌝ }
+{
+    match byte {
+        b'#' => text::put_number(out, at, n),
+        b'&' => put_degrees(out, at, n),
+        b'@' => text::put(out, at, word),
+        _ => text::put_byte(out, at, byte),
+    }
+}
+
+// How many numbers a byte of the pattern takes.
+fn takes(byte: u8) -> usize
+    ensures { λ r. ⌜ r ≡ Filled·takes byte ⌝ }
+    ensures { λ r. ⌜ r < 2 ⌝ }
+{
+    match byte {
+        b'#' => 1,
+        b'&' => 1,
+        _ => 0,
+    }
+}
+
+pub fn put_filled(out: &mut [u8], at: usize, pattern: &[u8], list: &[u64], word: &[u8]) -> usize
+    ensures { λ r. ⌜ Adds (filled (now (pattern .entry)) (now (list .entry)) (now (word .entry))) (now (out .entry)) at (now (out .exit)) r ⌝ }
+{
+    let mut end = text::within(at, out);
+    let mut i = 0;
+    let mut k = 0;
+    while i < pattern.len() {
+        end = put_piece(out, end, pattern[i], number_at(list, k), word);
+        k += takes(pattern[i]);
+        i += 1;
+    }
+    end
+}
