@@ -1,0 +1,60 @@
+-- `telling::put_count` meets its contract: the pattern, filled with the kind's name.
+use Rattle.telling.proofs.Ways.{named}
+use Rattle.telling.specs.Told.{messageText}
+use borrow.Author.Needs.{needs}
+use Rattle.telling.proofs.put_count.Statement.{statement}
+use Rattle.telling.proofs.put_count.Tie as tie
+
+kind-word-requires : tie.Need-kind-word-requires
+kind-word-requires c κs = search needs
+
+cast-t8 : tie.Need-cast-t8
+cast-t8 c = search needs
+
+cast-t9 : tie.Need-cast-t9
+cast-t9 c = search needs
+
+cast-t10 : tie.Need-cast-t10
+cast-t10 c = search needs
+
+cast-t11 : tie.Need-cast-t11
+cast-t11 c = search needs
+
+slice-aggregate-put-filled : tie.Need-slice-aggregate-put-filled
+slice-aggregate-put-filled c = search needs
+
+slice-aggregate-put-filled-2 : tie.Need-slice-aggregate-put-filled-2
+slice-aggregate-put-filled-2 c = search needs
+
+slice-aggregate-part : tie.Need-slice-aggregate-part
+slice-aggregate-part c = search needs
+
+part-requires : tie.Need-part-requires
+part-requires c κs = search needs
+
+put-filled-requires : tie.Need-put-filled-requires
+put-filled-requires c κs = search needs
+
+same-length : tie.Need-same-length
+same-length c = search needs
+
+returns : tie.Need-returns
+unfolding messageText
+returns c = search (named, needs)
+
+pub put-count-spec : {M : Type 1} → statement M
+put-count-spec =
+    tie.close
+    (tie.spec
+    kind-word-requires
+    cast-t8
+    cast-t9
+    cast-t10
+    cast-t11
+    slice-aggregate-put-filled
+    slice-aggregate-put-filled-2
+    slice-aggregate-part
+    part-requires
+    put-filled-requires
+    same-length
+    returns)

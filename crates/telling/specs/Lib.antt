@@ -1,0 +1,2 @@
+-- The drone's answers in words.
+pub mod Told
