@@ -65,7 +65,7 @@ fn finish(out: &[u8; OUTPUT], at: usize) {
 }
 
 fn main() {
-    let all = story::TEXT;
+    let all = story::text();
     let mut out = [0u8; OUTPUT];
     let mut store = [0u8; STORE_BYTES];
     let mut state = service::fresh();

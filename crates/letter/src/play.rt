@@ -58,6 +58,23 @@ fn put_said(out: &mut [u8; OUTPUT], at: usize, s: Step) -> usize {
     }
 }
 
+fn put_reply(out: &mut [u8; OUTPUT], at: usize, id: u32, reply: &[u8; REPLY_BYTES]) -> usize {
+    let at = text::put(out, at, b"  drone answers ");
+    telling::put_answer(out, at, id, reply)
+}
+
+fn put_after_silence(
+    out: &mut [u8; OUTPUT],
+    at: usize,
+    ms: u16,
+    id: u32,
+    reply: &[u8; REPLY_BYTES],
+) -> usize {
+    let pattern = b"# ms after the last item taken the drone says to ";
+    let at = put_filled(out, at, pattern, &[ms as u64], b"");
+    telling::put_answer(out, at, id, reply)
+}
+
 // A message call, and what is answered.
 pub fn message(
     s: Step,
@@ -82,8 +99,7 @@ pub fn message(
         text::part(&bytes, 0, p.len),
         s.clock,
     );
-    let at = text::put(out, at, b"  drone answers ");
-    let at = telling::put_answer(out, at, served.id, &reply);
+    let at = put_reply(out, at, served.id, &reply);
     let state = served.state;
     Played { state, at }
 }
@@ -98,9 +114,7 @@ pub fn silence(
 ) -> Played {
     let mut reply = [0u8; REPLY_BYTES];
     let served = service::timer(state, store, &mut reply, FLIGHT, s.clock);
-    let pattern = b"# ms after the last item taken the drone says to ";
-    let at = put_filled(out, at, pattern, &[s.n as u64], b"");
-    let at = telling::put_answer(out, at, served.id, &reply);
+    let at = put_after_silence(out, at, s.n, served.id, &reply);
     let state = served.state;
     Played { state, at }
 }

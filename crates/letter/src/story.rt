@@ -5,7 +5,7 @@ use limits::FLIGHT;
 // What is told between the steps, line by line; a bar ends what is told without ending the line.
 pub const LINES: usize = 954;
 
-pub const TEXT: [u8; LINES] =
+const TEXT: [u8; LINES] =
     *b"Three questions of a grower, played over the drone's mission service.\n\
 Your tablet is 255/190, the neighbour's 254/190. A place is latitude, longitude in degrees.\n\
 \n\
@@ -28,6 +28,10 @@ QUESTION 3: And if my neighbour's tablet sends too?\n\
 The neighbour's tablet tries a flight plan too, then sends a fence:\n\
 The flight plan is yours, the fence the neighbour's, both as they were sent.\n\
 The drone flies:|";
+
+pub fn text() -> [u8; LINES] {
+    TEXT
+}
 
 // What a step does: tells lines of the text, sends a COUNT or an item, lets time pass, asks which plan stands and for its items, or has a command done.
 pub const TELL: u8 = 0;

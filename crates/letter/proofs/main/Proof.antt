@@ -10,6 +10,9 @@ Inv-loop all out₀ store₀ state₀ told₀ i₀ out store state told i = i �
 abbrev μ-loop : tie.MeasureT-loop
 μ-loop all out₀ store₀ state₀ told₀ i₀ out store state told i = 73 - i
 
+text-requires : tie.Need-text-requires Inv-loop μ-loop
+text-requires c κs = search needs
+
 fresh-requires : tie.Need-fresh-requires Inv-loop μ-loop
 fresh-requires c κs = search needs
 
@@ -46,6 +49,7 @@ main-spec =
     (tie.spec
     Inv-loop
     μ-loop
+    text-requires
     fresh-requires
     loop-holds
     step-at-requires

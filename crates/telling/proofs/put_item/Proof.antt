@@ -28,7 +28,10 @@ same-length c = search needs
 
 returns : tie.Need-returns
 unfolding itemText
-returns c = search (named, needs)
+returns c =
+    let f = c .before .before in
+    let w = f .before .before .before .before .before .before .before in
+    named _ _ _ _ _ _ _ _ (w .command-word .result) (f .before .part .ensures) (w .command-word .ensures) (f .put-filled .ensures)
 
 pub put-item-spec : {M : Type 1} → statement M
 put-item-spec =

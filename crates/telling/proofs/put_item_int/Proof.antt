@@ -31,7 +31,9 @@ same-length c = search needs
 
 returns : tie.Need-returns
 unfolding messageText
-returns c = search (adds-both, needs)
+returns c =
+    let i = c .before .before in
+    adds-both (i .before .before .before .before .put-filled .ensures) (i .put-item .ensures)
 
 pub put-item-int-spec : {M : Type 1} → statement M
 put-item-int-spec =

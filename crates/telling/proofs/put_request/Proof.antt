@@ -37,7 +37,10 @@ same-length c = search needs
 
 returns : tie.Need-returns
 unfolding messageText
-returns c = search (named, needs)
+returns c =
+    let f = c .before .before in
+    let w = f .before .before .before .before .before .before .before .before .before .before in
+    named _ _ _ _ _ _ _ _ (w .kind-word .result) (f .before .part .ensures) (w .kind-word .ensures) (f .put-filled .ensures)
 
 pub put-request-spec : {M : Type 1} → statement M
 put-request-spec =
