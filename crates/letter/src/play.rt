@@ -32,8 +32,14 @@ fn put_of_kind(
     kind: u8,
 ) -> usize {
     let name = words::kind_word(kind);
-    let letters = name.letters;
-    put_filled(out, at, pattern, &[a, b], text::part(&letters, 0, name.len))
+    let letters = words::names();
+    put_filled(
+        out,
+        at,
+        pattern,
+        &[a, b],
+        text::part(&letters, name.from, name.len),
+    )
 }
 
 // What a tablet says; after it has asked which plan stands, it asks for each item without a word.

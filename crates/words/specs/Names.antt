@@ -3,13 +3,18 @@ use Prim.Native.Nat.{ℕ}
 use mathlib.Core.Bool.{cond}
 use mathlib.Core.List.{List}
 use lib.Dec.{eqb}
-use lib.ListN.{take}
+use lib.ListN.{take, drop}
 use Rattle.rules.specs.Limits.{flight, fence, rally, accepted, invalidSequence, denied, cancelled}
 use Rattle.text.specs.Words.{ascii}
 use Rattle.words.specs.declared.naming.Word.{Word}
 
+-- all of them, one after another
+abbrev pub names : List ℕ
+names = ascii "flightfencerallyunknownacceptedinvalid sequencedeniedcancelledrefusedwaypointlandtakeoffcircle to stay insidecommand"
+
+-- a part of them
 unfoldable pub wordText : Word → List ℕ
-wordText w = take (w .len) (w .letters)
+wordText w = take (w .len) (drop (w .from) names)
 
 unfoldable pub kindName : ℕ → List ℕ
 kindName kind = cond (eqb kind flight) (ascii "flight") (cond (eqb kind fence) (ascii "fence") (cond (eqb kind rally) (ascii "rally") (ascii "unknown")))

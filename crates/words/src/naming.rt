@@ -1,28 +1,40 @@
-// The names of kinds, results and commands, as words.
+// The names of kinds, results and commands, as parts of one text.
 ghost use mathlib.Core.Path.{_≡_};
-ghost use lib.ListN.{take};
-ghost use Rattle.words.specs.Names.{wordText, kindName, resultName, commandName};
+ghost use lib.ListN.{take, drop};
+ghost use Rattle.words.specs.Names.{names as Names·names, wordText, kindName, resultName, commandName};
 
-// The first letters of an array.
+pub const LETTERS: usize = 116;
+
+const NAMES: [u8; LETTERS] = *b"flightfencerallyunknown\
+    acceptedinvalid sequencedeniedcancelledrefused\
+    waypointlandtakeoffcircle to stay insidecommand";
+
+pub fn names() -> [u8; LETTERS]
+    ensures { λ r. ⌜ r ≡ Names·names ⌝ }
+{
+    NAMES
+}
+
+// A part of the names: where it begins, and how long it is.
 pub struct Word {
-    pub letters: [u8; 21],
+    pub from: usize,
     pub len: usize,
 }
 
-fn spelt(letters: [u8; 21], len: usize) -> Word
-    ensures { λ r. ⌜ wordText r ≡ take len letters ⌝ }
+fn part(from: usize, len: usize) -> Word
+    ensures { λ r. ⌜ wordText r ≡ take len (drop from Names·names) ⌝ }
 {
-    Word { letters, len }
+    Word { from, len }
 }
 
 pub fn kind_word(kind: u8) -> Word
     ensures { λ r. ⌜ wordText r ≡ kindName kind ⌝ }
 {
     match kind {
-        limits::FLIGHT => spelt(*b"flight               ", 6),
-        limits::FENCE => spelt(*b"fence                ", 5),
-        limits::RALLY => spelt(*b"rally                ", 5),
-        _ => spelt(*b"unknown              ", 7),
+        limits::FLIGHT => part(0, 6),
+        limits::FENCE => part(6, 5),
+        limits::RALLY => part(11, 5),
+        _ => part(16, 7),
     }
 }
 
@@ -30,11 +42,11 @@ pub fn result_word(result: u8) -> Word
     ensures { λ r. ⌜ wordText r ≡ resultName result ⌝ }
 {
     match result {
-        limits::ACCEPTED => spelt(*b"accepted             ", 8),
-        limits::INVALID_SEQUENCE => spelt(*b"invalid sequence     ", 16),
-        limits::DENIED => spelt(*b"denied               ", 6),
-        limits::CANCELLED => spelt(*b"cancelled            ", 9),
-        _ => spelt(*b"refused              ", 7),
+        limits::ACCEPTED => part(23, 8),
+        limits::INVALID_SEQUENCE => part(31, 16),
+        limits::DENIED => part(47, 6),
+        limits::CANCELLED => part(53, 9),
+        _ => part(62, 7),
     }
 }
 
@@ -42,10 +54,10 @@ pub fn command_word(command: u16) -> Word
     ensures { λ r. ⌜ wordText r ≡ commandName command ⌝ }
 {
     match command {
-        16 => spelt(*b"waypoint             ", 8),
-        21 => spelt(*b"land                 ", 4),
-        22 => spelt(*b"takeoff              ", 7),
-        5003 => spelt(*b"circle to stay inside", 21),
-        _ => spelt(*b"command              ", 7),
+        16 => part(69, 8),
+        21 => part(77, 4),
+        22 => part(81, 7),
+        5003 => part(88, 21),
+        _ => part(109, 7),
     }
 }

@@ -32,7 +32,10 @@ same-length : tie.Need-same-length
 same-length c = search needs
 
 returns : tie.Need-returns
-returns c = search (value-text, needs)
+returns c =
+    let h = c .before .before in
+    let s = h .before .before .before .before .before in
+    value-text _ (s .before .before .bits .result) _ _ _ _ _ _ (s .before .before .bits .ensures) (s .put-byte .ensures) (h .put-hex .ensures)
 
 pub put-value-spec : {M : Type 1} → statement M
 put-value-spec =

@@ -20,7 +20,12 @@ same-length : tie.Need-same-length
 same-length c = search needs
 
 returns : tie.Need-returns
-returns c = search (kind-text, needs)
+returns c =
+    let w = c .before .before in
+    let i = w .before .before .before .before .before .before in
+    let p = i .before .before .before .before in
+    let a = p .before .before .before .before .args in
+    kind-text _ _ _ _ _ _ _ _ _ (a .plan) _ (w .before .brought .result) (w .before .brought .ensures) (p .put-plan .ensures) (i .put-items .ensures) (w .put-items2 .ensures)
 
 pub put-kind-spec : {M : Type 1} → statement M
 put-kind-spec =

@@ -32,7 +32,12 @@ same-length : tie.Need-same-length
 same-length c = search needs
 
 returns : tie.Need-returns
-returns c = search (plan-line, needs)
+returns c =
+    let u = c .before .before in
+    let r = u .before .before .before .before in
+    let f = r .before .before .before in
+    let a = f .before .before .before .before .before .args in
+    plan-line _ _ _ _ _ _ _ (a .plan) (f .before .number-shown .result) (f .flag .result) (f .before .number-shown .ensures) (f .flag .ensures) (r .put-row .ensures) (u .put-upload .ensures)
 
 pub put-plan-spec : {M : Type 1} → statement M
 put-plan-spec =

@@ -14,7 +14,9 @@ same-length : tie.Need-same-length
 same-length c = search needs
 
 returns : tie.Need-returns
-returns c = search (adds-after, needs)
+returns c =
+    let n = c .before .before in
+    adds-after _ _ (n .before .before .before .before .put-byte .ensures) (n .put-numbers .ensures)
 
 pub put-begun-spec : {M : Type 1} → statement M
 put-begun-spec = tie.close (tie.spec put-byte-requires put-numbers-requires same-length returns)

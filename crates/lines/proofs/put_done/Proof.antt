@@ -20,7 +20,10 @@ same-length : tie.Need-same-length
 same-length c = search needs
 
 returns : tie.Need-returns
-returns c = search (done-line, needs)
+returns c =
+    let e = c .before .before in
+    let t = e .before .before .before .before in
+    done-line _ _ _ _ _ _ _ _ _ _ (t .before .before .before .before .put-begun .ensures) (t .put-command .ensures) (e .put-byte .ensures)
 
 pub put-done-spec : {M : Type 1} → statement M
 put-done-spec =

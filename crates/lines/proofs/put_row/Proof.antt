@@ -14,7 +14,9 @@ same-length : tie.Need-same-length
 same-length c = search needs
 
 returns : tie.Need-returns
-returns c = search (adds-both, needs)
+returns c =
+    let e = c .before .before in
+    adds-both (e .before .before .before .before .put-begun .ensures) (e .put-byte .ensures)
 
 pub put-row-spec : {M : Type 1} → statement M
 put-row-spec = tie.close (tie.spec put-begun-requires put-byte-requires same-length returns)

@@ -23,7 +23,12 @@ same-length : tie.Need-same-length
 same-length c = search needs
 
 returns : tie.Need-returns
-returns c = search (served-line, needs)
+returns c =
+    let e = c .before .before in
+    let u = e .before in
+    let p = u .before .before .before .before in
+    let b = p .before .before .before .before in
+    served-line _ _ _ _ _ _ _ _ _ _ _ _ _ _ (u .untouched .ensures) (b .put-begun .ensures) (p .put-reply .ensures) (e .put-end .ensures)
 
 pub put-served-spec : {M : Type 1} → statement M
 put-served-spec =

@@ -9,14 +9,17 @@ use Rattle.telling.proofs.put_ack.Tie as tie
 result-word-requires : tie.Need-result-word-requires
 result-word-requires c κs = search needs
 
-cast-t9 : tie.Need-cast-t9
-cast-t9 c = search needs
+names-requires : tie.Need-names-requires
+names-requires c κs = search needs
 
 cast-t10 : tie.Need-cast-t10
 cast-t10 c = search needs
 
 cast-t11 : tie.Need-cast-t11
 cast-t11 c = search needs
+
+cast-t12 : tie.Need-cast-t12
+cast-t12 c = search needs
 
 slice-aggregate-put-filled : tie.Need-slice-aggregate-put-filled
 slice-aggregate-put-filled c = search needs
@@ -42,19 +45,20 @@ same-length c = search needs
 returns : tie.Need-returns
 unfolding messageText
 returns c =
-    let n = c .before .before in
-    let f = n .before .before .before .before in
-    let w = f .before .before .before .before .before .before .before .before .before .before in
-    adds-both (named _ _ _ _ _ _ _ _ (w .result-word .result) (f .before .part .ensures) (w .result-word .ensures) (f .put-filled .ensures)) (n .put-plan-number .ensures)
+    let p = c .before .before in
+    let f = p .before .before .before .before in
+    let n = f .before .before .before .before .before .before .before .before .before in
+    adds-both (named _ _ _ _ _ _ _ _ _ (n .before .result-word .result) (n .names .ensures) (f .before .part .ensures) (n .before .result-word .ensures) (f .put-filled .ensures)) (p .put-plan-number .ensures)
 
 pub put-ack-spec : {M : Type 1} → statement M
 put-ack-spec =
     tie.close
     (tie.spec
     result-word-requires
-    cast-t9
+    names-requires
     cast-t10
     cast-t11
+    cast-t12
     slice-aggregate-put-filled
     slice-aggregate-put-filled-2
     slice-aggregate-part

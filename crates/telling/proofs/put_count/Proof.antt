@@ -8,8 +8,8 @@ use Rattle.telling.proofs.put_count.Tie as tie
 kind-word-requires : tie.Need-kind-word-requires
 kind-word-requires c κs = search needs
 
-cast-t8 : tie.Need-cast-t8
-cast-t8 c = search needs
+names-requires : tie.Need-names-requires
+names-requires c κs = search needs
 
 cast-t9 : tie.Need-cast-t9
 cast-t9 c = search needs
@@ -19,6 +19,9 @@ cast-t10 c = search needs
 
 cast-t11 : tie.Need-cast-t11
 cast-t11 c = search needs
+
+cast-t12 : tie.Need-cast-t12
+cast-t12 c = search needs
 
 slice-aggregate-put-filled : tie.Need-slice-aggregate-put-filled
 slice-aggregate-put-filled c = search needs
@@ -42,18 +45,19 @@ returns : tie.Need-returns
 unfolding messageText
 returns c =
     let f = c .before .before in
-    let w = f .before .before .before .before .before .before .before .before .before .before .before in
-    named _ _ _ _ _ _ _ _ (w .kind-word .result) (f .before .part .ensures) (w .kind-word .ensures) (f .put-filled .ensures)
+    let n = f .before .before .before .before .before .before .before .before .before .before in
+    named _ _ _ _ _ _ _ _ _ (n .before .kind-word .result) (n .names .ensures) (f .before .part .ensures) (n .before .kind-word .ensures) (f .put-filled .ensures)
 
 pub put-count-spec : {M : Type 1} → statement M
 put-count-spec =
     tie.close
     (tie.spec
     kind-word-requires
-    cast-t8
+    names-requires
     cast-t9
     cast-t10
     cast-t11
+    cast-t12
     slice-aggregate-put-filled
     slice-aggregate-put-filled-2
     slice-aggregate-part

@@ -19,6 +19,9 @@ returns c = search (no-number, needs)
 kind-word-requires : tie.Need-kind-word-requires
 kind-word-requires c κs = search needs
 
+names-requires : tie.Need-names-requires
+names-requires c κs = search needs
+
 slice-aggregate-put-filled : tie.Need-slice-aggregate-put-filled
 slice-aggregate-put-filled c = search needs
 
@@ -40,8 +43,8 @@ same-length-2 c = search needs
 returns-2 : tie.Need-returns-2
 returns-2 c =
     let f = c .before .before in
-    let w = f .before .before .before .before .before .before .before in
-    some-number _ _ _ _ _ _ (w .before .if1 .left) (named _ _ _ _ _ _ _ _ (w .kind-word .result) (f .before .part .ensures) (w .kind-word .ensures) (f .put-filled .ensures))
+    let n = f .before .before .before .before .before .before in
+    some-number _ _ _ _ _ _ (n .before .before .if1 .left) (named _ _ _ _ _ _ _ _ _ (n .before .kind-word .result) (n .names .ensures) (f .before .part .ensures) (n .before .kind-word .ensures) (f .put-filled .ensures))
 
 pub put-plan-number-spec : {M : Type 1} → statement M
 put-plan-number-spec =
@@ -52,6 +55,7 @@ put-plan-number-spec =
     same-length
     returns
     kind-word-requires
+    names-requires
     slice-aggregate-put-filled
     slice-aggregate-put-filled-2
     slice-aggregate-part

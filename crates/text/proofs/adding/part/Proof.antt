@@ -1,4 +1,5 @@
 -- `text::adding::part` meets its contract.
+use denote.Ref.{now}
 use Rattle.text.specs.Laws.{some-part, whole-part}
 use borrow.Author.Needs.{needs}
 use Rattle.text.proofs.adding.part.Statement.{statement}
@@ -23,7 +24,10 @@ part-result-end : tie.Need-part-result-end
 part-result-end c = search needs
 
 returns : tie.Need-returns
-returns c = search (some-part, needs)
+returns c =
+    let w = c .before .before in
+    let a = w .before .before .args in
+    some-part (now (a .bytes)) (a .from) (w .within .result) (a .n) (w .within .ensures .0)
 
 sub-result-2 : tie.Need-sub-result-2
 sub-result-2 c = search needs
@@ -35,7 +39,10 @@ part-result-end-2 : tie.Need-part-result-end-2
 part-result-end-2 c = search needs
 
 returns-2 : tie.Need-returns-2
-returns-2 c = search (whole-part, needs)
+returns-2 c =
+    let w = c .before .before in
+    let a = w .before .before .args in
+    whole-part (now (a .bytes)) (a .from) (w .within .result) (a .n) (w .within .ensures .0) (c .before .if1 .left)
 
 pub part-spec : {M : Type 1} → statement M
 part-spec =

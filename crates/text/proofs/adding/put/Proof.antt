@@ -1,4 +1,5 @@
 -- `text::adding::put` meets its contract. The loop's invariant: the first i bytes are added.
+use native.Mathlib.Omega.{arith}
 use Prim.Native.Nat.{_-_, _≤_}
 use lib.ListN.{length, take}
 use borrow.Author.Needs.{needs}
@@ -32,7 +33,10 @@ loop-less : tie.Need-loop-less Inv-loop μ-loop
 loop-less c = search needs
 
 loop-again : tie.Need-loop-again Inv-loop μ-loop
-loop-again c = search (put-more, needs)
+loop-again c =
+    let p = c .before .before in
+    let l = p .before .before .before .before in
+    (omega arith, put-more _ _ _ _ _ (l .loop .i) _ _ (omega arith) (l .loop .inv .1) (p .put-byte .ensures))
 
 same-length : tie.Need-same-length Inv-loop μ-loop
 same-length c = c .before .loop .inv .1 .room

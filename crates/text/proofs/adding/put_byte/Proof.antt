@@ -1,4 +1,6 @@
 -- `text::adding::put_byte` meets its contract: the byte is kept where there is room.
+use native.Mathlib.Omega.{arith}
+use denote.Ref.{now}
 use borrow.Author.Needs.{needs}
 use Rattle.text.specs.Laws.{adds-byte, adds-full}
 use Rattle.text.proofs.adding.put_byte.Statement.{statement}
@@ -14,10 +16,10 @@ same-length : tie.Need-same-length
 same-length c = search needs
 
 returns : tie.Need-returns
-returns c = search (adds-byte, needs)
+returns c = let a = c .before .args in adds-byte (now (a .out)) (a .at) (a .byte) (omega arith)
 
 returns-2 : tie.Need-returns-2
-returns-2 c = search (adds-full, needs)
+returns-2 c = let a = c .before .args in adds-full _ (now (a .out)) (a .at) (omega arith)
 
 pub put-byte-spec : {M : Type 1} → statement M
 put-byte-spec = tie.close (tie.spec slice-write-out add-result same-length returns returns-2)

@@ -1,9 +1,10 @@
 -- `text::adding::put_hex` meets its contract. The loop's invariant: the first i are added.
+use native.Mathlib.Omega.{arith}
 use Prim.Native.Nat.{_-_, _≤_}
 use lib.ListN.{length, take}
 use borrow.Author.Needs.{needs}
 use Rattle.text.specs.Added.{Adds}
-use Rattle.text.specs.Digits.{each, hex}
+use Rattle.text.specs.Digits.{each, twoDigits, hex}
 use Rattle.text.specs.Laws.{adds-nothing, put-each-more, whole-list}
 use Rattle.text.proofs.adding.put_hex.Statement.{statement}
 use Rattle.text.proofs.adding.put_hex.Tie as tie
@@ -34,7 +35,10 @@ loop-less : tie.Need-loop-less Inv-loop μ-loop
 loop-less c = search needs
 
 loop-again : tie.Need-loop-again Inv-loop μ-loop
-loop-again c = search (put-each-more, needs)
+loop-again c =
+    let p = c .before .before in
+    let l = p .before .before .before .before in
+    (omega arith, put-each-more _ _ _ _ _ (l .loop .i) _ _ (omega arith) twoDigits (l .loop .inv .1) (p .put-two-digits .ensures))
 
 same-length : tie.Need-same-length Inv-loop μ-loop
 same-length c = c .before .loop .inv .1 .room

@@ -6,41 +6,41 @@ use borrow.Author.Needs.{needs}
 use Rattle.words.proofs.naming.kind_word.Statement.{statement}
 use Rattle.words.proofs.naming.kind_word.Tie as tie
 
-spelt-requires : tie.Need-spelt-requires
-spelt-requires c κs = search needs
+part-requires : tie.Need-part-requires
+part-requires c κs = search needs
 
-spelt-requires-2 : tie.Need-spelt-requires-2
-spelt-requires-2 c κs = search needs
+part-requires-2 : tie.Need-part-requires-2
+part-requires-2 c κs = search needs
 
-spelt-requires-3 : tie.Need-spelt-requires-3
-spelt-requires-3 c κs = search needs
+part-requires-3 : tie.Need-part-requires-3
+part-requires-3 c κs = search needs
 
-spelt-requires-4 : tie.Need-spelt-requires-4
-spelt-requires-4 c κs = search needs
+part-requires-4 : tie.Need-part-requires-4
+part-requires-4 c κs = search needs
 
 returns : tie.Need-returns
 unfolding kindName
-returns c = rw (c .before .before .before .match .keys1) (c .spelt .ensures)
+returns c = rw (c .before .match .keys1) (c .part .ensures)
 
 returns-2 : tie.Need-returns-2
 unfolding kindName
-returns-2 c = rw (c .before .before .before .match .keys2) (c .spelt2 .ensures)
+returns-2 c = rw (c .before .match .keys2) (c .part2 .ensures)
 
 returns-3 : tie.Need-returns-3
 unfolding kindName
-returns-3 c = rw (c .before .before .before .match .keys3) (c .spelt3 .ensures)
+returns-3 c = rw (c .before .match .keys3) (c .part3 .ensures)
 
 returns-4 : tie.Need-returns-4
-returns-4 c = let rest = c .before .before .before .match .rest in c .spelt4 .ensures ∙ other-kind _ (rest .0 .0 .1) (rest .0 .1) (rest .1)
+returns-4 c = let rest = c .before .match .rest in c .part4 .ensures ∙ other-kind _ (rest .0 .0 .1) (rest .0 .1) (rest .1)
 
 pub kind-word-spec : {M : Type 1} → statement M
 kind-word-spec =
     tie.close
     (tie.spec
-    spelt-requires
-    spelt-requires-2
-    spelt-requires-3
-    spelt-requires-4
+    part-requires
+    part-requires-2
+    part-requires-3
+    part-requires-4
     returns
     returns-2
     returns-3
