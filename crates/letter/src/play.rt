@@ -31,15 +31,7 @@ fn put_of_kind(
     b: u64,
     kind: u8,
 ) -> usize {
-    let name = words::kind_word(kind);
-    let letters = words::names();
-    put_filled(
-        out,
-        at,
-        pattern,
-        &[a, b],
-        text::part(&letters, name.from, name.len),
-    )
+    put_filled(out, at, pattern, &[a, b], words::kind_word(kind))
 }
 
 // What a tablet says; after it has asked which plan stands, it asks for each item without a word.
@@ -77,7 +69,7 @@ fn put_after_silence(
     reply: &[u8; REPLY_BYTES],
 ) -> usize {
     let pattern = b"# ms after the last item taken the drone says to ";
-    let at = put_filled(out, at, pattern, &[ms as u64], b"");
+    let at = put_filled(out, at, pattern, &[ms as u64], words::no_word());
     telling::put_answer(out, at, id, reply)
 }
 
@@ -128,7 +120,7 @@ pub fn silence(
 // What is told of a command: an item to fly, or the end.
 fn put_command(out: &mut [u8; OUTPUT], at: usize, command: Command) -> usize {
     match command {
-        Command::Fly(n) => put_filled(out, at, b" item #,", &[n as u64], b""),
+        Command::Fly(n) => put_filled(out, at, b" item #,", &[n as u64], words::no_word()),
         Command::Finished => text::put(out, at, b" finished.\n"),
         _ => text::put(out, at, b" another command,"),
     }

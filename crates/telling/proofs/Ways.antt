@@ -1,21 +1,19 @@
 -- The drone's answers, part by part.
 use Prim.Native.Nat.{ℕ}
-use mathlib.Core.Path.{_≡_, ap, sym, _∙_}
+use mathlib.Core.Path.{_≡_}
 use mathlib.Core.List.{List, [], _∷_}
-use lib.ListN.{take, drop}
 use borrow.Author.Tests.{eq-eqb, ne-eqb}
 use Rattle.rules.specs.Messages.{Message, decode}
 use Rattle.text.specs.Added.{Adds}
 use Rattle.text.specs.Words.{ascii}
 use Rattle.words.specs.declared.naming.Word.{Word}
 use Rattle.words.specs.Filled.{filled}
-use Rattle.words.specs.Names.{names, wordText, kindName}
+use Rattle.words.specs.Names.{wordText, kindName}
 use Rattle.telling.specs.Told.{numberText, messageText, answerText}
 
 -- a pattern that is filled with a name
-pub named : (pattern ns part letters name before after : List ℕ) (at r : ℕ) (w : Word) → letters ≡ names → part ≡ take (w .len) (drop (w .from) letters) → wordText w ≡ name → Adds (filled pattern ns part) before at after r → Adds (filled pattern ns name) before at after r
-unfolding wordText
-named pattern ns part letters name before after at r w all front is adds = rw (sym is ∙ sym (ap (λ (l : List ℕ). take (w .len) (drop (w .from) l)) all) ∙ sym front) adds
+pub named : (pattern ns name before after : List ℕ) (at r : ℕ) (w : Word) → wordText w ≡ name → Adds (filled pattern ns (wordText w)) before at after r → Adds (filled pattern ns name) before at after r
+named pattern ns name before after at r w is adds = rw is at adds
 
 module _ (kind number : ℕ) (before after : List ℕ) (at r : ℕ) where
   pub no-number : number ≡ 0 → Adds (10 ∷ []) before at after r → Adds (numberText kind number) before at after r

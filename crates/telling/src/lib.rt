@@ -13,50 +13,29 @@ pub fn put_item(out: &mut [u8], at: usize, seq: u16, command: u16, x: u32, y: u3
     ensures { λ r. ⌜ Adds (itemText seq command x y) (now (out .entry)) at (now (out .exit)) r ⌝ }
 {
     let name = words::command_word(command);
-    let letters = words::names();
     let list = [seq as u64, x as u64, y as u64];
-    put_filled(
-        out,
-        at,
-        b"item #, @ at &, &\n",
-        &list,
-        text::part(&letters, name.from, name.len),
-    )
+    put_filled(out, at, b"item #, @ at &, &\n", &list, name)
 }
 
 fn put_count(out: &mut [u8], at: usize, m: Count) -> usize
     ensures { λ r. ⌜ Adds (messageText (countMessage m)) (now (out .entry)) at (now (out .exit)) r ⌝ }
 {
     let name = words::kind_word(m.kind);
-    let letters = words::names();
     let list = [
         m.system as u64,
         m.component as u64,
         m.count as u64,
         m.number as u64,
     ];
-    put_filled(
-        out,
-        at,
-        b"#/#: # @ items, plan number #\n",
-        &list,
-        text::part(&letters, name.from, name.len),
-    )
+    put_filled(out, at, b"#/#: # @ items, plan number #\n", &list, name)
 }
 
 fn put_request(out: &mut [u8], at: usize, m: RequestInt) -> usize
     ensures { λ r. ⌜ Adds (messageText (requestIntMessage m)) (now (out .entry)) at (now (out .exit)) r ⌝ }
 {
     let name = words::kind_word(m.kind);
-    let letters = words::names();
     let list = [m.system as u64, m.component as u64, m.seq as u64];
-    put_filled(
-        out,
-        at,
-        b"#/#: please send @ item #\n",
-        &list,
-        text::part(&letters, name.from, name.len),
-    )
+    put_filled(out, at, b"#/#: please send @ item #\n", &list, name)
 }
 
 // The plan number, where there is one.
@@ -67,30 +46,16 @@ fn put_plan_number(out: &mut [u8], at: usize, kind: u8, number: u32) -> usize
         return text::put(out, at, b"\n");
     }
     let name = words::kind_word(kind);
-    let letters = words::names();
     let list = [number as u64];
-    put_filled(
-        out,
-        at,
-        b", @ plan number #\n",
-        &list,
-        text::part(&letters, name.from, name.len),
-    )
+    put_filled(out, at, b", @ plan number #\n", &list, name)
 }
 
 fn put_ack(out: &mut [u8], at: usize, m: Ack) -> usize
     ensures { λ r. ⌜ Adds (messageText (ackMessage m)) (now (out .entry)) at (now (out .exit)) r ⌝ }
 {
     let name = words::result_word(m.result);
-    let letters = words::names();
     let list = [m.system as u64, m.component as u64, m.result as u64];
-    let end = put_filled(
-        out,
-        at,
-        b"#/#: @ (ACK #)",
-        &list,
-        text::part(&letters, name.from, name.len),
-    );
+    let end = put_filled(out, at, b"#/#: @ (ACK #)", &list, name);
     put_plan_number(out, end, m.kind, m.number)
 }
 
@@ -99,7 +64,7 @@ fn put_item_int(out: &mut [u8], at: usize, m: ItemInt) -> usize
 {
     let item = m.item;
     let list = [m.system as u64, m.component as u64];
-    let end = put_filled(out, at, b"#/#: ", &list, b"");
+    let end = put_filled(out, at, b"#/#: ", &list, words::no_word());
     put_item(out, end, item.seq, item.command, item.bits_x, item.bits_y)
 }
 

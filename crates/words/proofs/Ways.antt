@@ -4,13 +4,14 @@ use mathlib.Core.Path.{_≡_, sym}
 use mathlib.Core.List.{List, [], _∷_}
 use native.Mathlib.Numerals.{add-one}
 use native.Mathlib.Omega.{arith}
-use lib.ListN.{length, getD, List·getD-eq-default}
+use lib.ListN.{length, getD, take, drop, List·getD-eq-default}
 use borrow.Author.Tests.{ne-eqb, lt-ltb, le-ltb}
 use Rattle.text.specs.Added.{Adds}
 use Rattle.text.specs.Laws.{adds-both, adds-after}
 use Rattle.text.specs.Words.{ascii}
+use Rattle.words.specs.declared.naming.Word.{Word}
 use Rattle.words.specs.Filled.{magnitude, unitsText, degreesText, piece, takes, taken, filledTo, filled}
-use Rattle.words.specs.Names.{kindName, resultName, commandName}
+use Rattle.words.specs.Names.{names, wordText, kindName, resultName, commandName}
 
 pub no-number : (l : List ℕ) (i : ℕ) → length l ≤ i → 0 ≡ getD l i 0
 no-number l i h = sym (List·getD-eq-default l 0 h)
@@ -67,3 +68,8 @@ other-result r a b c d = rw (ne-eqb r 0 a, ne-eqb r 14 c, ne-eqb r 13 b, ne-eqb 
 pub other-command : (n : ℕ) → (n ≡ 16 → ⊥) → (n ≡ 21 → ⊥) → (n ≡ 22 → ⊥) → (n ≡ 5003 → ⊥) → ascii "command" ≡ commandName n
 unfolding commandName
 other-command n a b c d = rw (ne-eqb n 16 a, ne-eqb n 21 b, ne-eqb n 22 c, ne-eqb n 5003 d)
+
+-- a word that is a part of the names
+pub spelt : (pattern ns part all before after : List ℕ) (at r : ℕ) (w : Word) → all ≡ names → part ≡ take (w .len) (drop (w .from) all) → Adds (filled pattern ns part) before at after r → Adds (filled pattern ns (wordText w)) before at after r
+unfolding wordText
+spelt pattern ns part all before after at r w is front adds = rw (← is, ← front) adds

@@ -4,6 +4,9 @@ ghost use mathlib.Core.Path.{_≡_};
 ghost use lib.ListN.{getD};
 ghost use Rattle.text.specs.Added.{Adds};
 ghost use Rattle.words.specs.Filled.{degreesText, magnitude as Filled·magnitude, unitsText, piece, takes as Filled·takes, filled};
+ghost use Rattle.words.specs.Names.{wordText};
+use crate::naming::Word;
+use crate::naming::names;
 
 // The next number, or 0 past the list's end.
 fn number_at(list: &[u64], i: usize) -> u64
@@ -76,7 +79,15 @@ fn takes(byte: u8) -> usize
     }
 }
 
-pub fn put_filled(out: &mut [u8], at: usize, pattern: &[u8], list: &[u64], word: &[u8]) -> usize
+pub fn put_filled(out: &mut [u8], at: usize, pattern: &[u8], list: &[u64], word: Word) -> usize
+    ensures { λ r. ⌜ Adds (filled (now (pattern .entry)) (now (list .entry)) (wordText word)) (now (out .entry)) at (now (out .exit)) r ⌝ }
+{
+    let all = names();
+    let name = text::part(&all, word.from, word.len);
+    put_spelt(out, at, pattern, list, name)
+}
+
+fn put_spelt(out: &mut [u8], at: usize, pattern: &[u8], list: &[u64], word: &[u8]) -> usize
     ensures { λ r. ⌜ Adds (filled (now (pattern .entry)) (now (list .entry)) (now (word .entry))) (now (out .entry)) at (now (out .exit)) r ⌝ }
 {
     let mut end = text::within(at, out);

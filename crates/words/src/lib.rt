@@ -3,9 +3,8 @@ mod filling;
 mod naming;
 
 pub use filling::put_filled;
-pub use naming::LETTERS;
 pub use naming::Word;
 pub use naming::command_word;
 pub use naming::kind_word;
-pub use naming::names;
+pub use naming::no_word;
 pub use naming::result_word;

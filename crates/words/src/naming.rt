@@ -1,9 +1,10 @@
 // The names of kinds, results and commands, as parts of one text.
 ghost use mathlib.Core.Path.{_≡_};
+ghost use mathlib.Core.List.{[]};
 ghost use lib.ListN.{take, drop};
 ghost use Rattle.words.specs.Names.{names as Names·names, wordText, kindName, resultName, commandName};
 
-pub const LETTERS: usize = 116;
+const LETTERS: usize = 116;
 
 const NAMES: [u8; LETTERS] = *b"flightfencerallyunknown\
     acceptedinvalid sequencedeniedcancelledrefused\
@@ -25,6 +26,13 @@ fn part(from: usize, len: usize) -> Word
     ensures { λ r. ⌜ wordText r ≡ take len (drop from Names·names) ⌝ }
 {
     Word { from, len }
+}
+
+// No word at all.
+pub fn no_word() -> Word
+    ensures { λ r. ⌜ wordText r ≡ [] ⌝ }
+{
+    part(0, 0)
 }
 
 pub fn kind_word(kind: u8) -> Word

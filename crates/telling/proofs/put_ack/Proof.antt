@@ -9,29 +9,20 @@ use Rattle.telling.proofs.put_ack.Tie as tie
 result-word-requires : tie.Need-result-word-requires
 result-word-requires c κs = search needs
 
-names-requires : tie.Need-names-requires
-names-requires c κs = search needs
+cast-t8 : tie.Need-cast-t8
+cast-t8 c = search needs
+
+cast-t9 : tie.Need-cast-t9
+cast-t9 c = search needs
 
 cast-t10 : tie.Need-cast-t10
 cast-t10 c = search needs
-
-cast-t11 : tie.Need-cast-t11
-cast-t11 c = search needs
-
-cast-t12 : tie.Need-cast-t12
-cast-t12 c = search needs
 
 slice-aggregate-put-filled : tie.Need-slice-aggregate-put-filled
 slice-aggregate-put-filled c = search needs
 
 slice-aggregate-put-filled-2 : tie.Need-slice-aggregate-put-filled-2
 slice-aggregate-put-filled-2 c = search needs
-
-slice-aggregate-part : tie.Need-slice-aggregate-part
-slice-aggregate-part c = search needs
-
-part-requires : tie.Need-part-requires
-part-requires c κs = search needs
 
 put-filled-requires : tie.Need-put-filled-requires
 put-filled-requires c κs = search needs
@@ -44,25 +35,22 @@ same-length c = search needs
 
 returns : tie.Need-returns
 unfolding messageText
-returns c =
+returns c = 
     let p = c .before .before in
     let f = p .before .before .before .before in
-    let n = f .before .before .before .before .before .before .before .before .before in
-    adds-both (named _ _ _ _ _ _ _ _ _ (n .before .result-word .result) (n .names .ensures) (f .before .part .ensures) (n .before .result-word .ensures) (f .put-filled .ensures)) (p .put-plan-number .ensures)
+    let w = f .before .before .before .before .before .before .before in
+    adds-both (named _ _ _ _ _ _ _ (w .result-word .result) (w .result-word .ensures) (f .put-filled .ensures)) (p .put-plan-number .ensures)
 
 pub put-ack-spec : {M : Type 1} → statement M
 put-ack-spec =
     tie.close
     (tie.spec
     result-word-requires
-    names-requires
+    cast-t8
+    cast-t9
     cast-t10
-    cast-t11
-    cast-t12
     slice-aggregate-put-filled
     slice-aggregate-put-filled-2
-    slice-aggregate-part
-    part-requires
     put-filled-requires
     put-plan-number-requires
     same-length

@@ -8,20 +8,11 @@ use Rattle.telling.proofs.put_item.Tie as tie
 command-word-requires : tie.Need-command-word-requires
 command-word-requires c κs = search needs
 
-names-requires : tie.Need-names-requires
-names-requires c κs = search needs
-
 slice-aggregate-put-filled : tie.Need-slice-aggregate-put-filled
 slice-aggregate-put-filled c = search needs
 
 slice-aggregate-put-filled-2 : tie.Need-slice-aggregate-put-filled-2
 slice-aggregate-put-filled-2 c = search needs
-
-slice-aggregate-part : tie.Need-slice-aggregate-part
-slice-aggregate-part c = search needs
-
-part-requires : tie.Need-part-requires
-part-requires c κs = search needs
 
 put-filled-requires : tie.Need-put-filled-requires
 put-filled-requires c κs = search needs
@@ -31,21 +22,18 @@ same-length c = search needs
 
 returns : tie.Need-returns
 unfolding itemText
-returns c =
+returns c = 
     let f = c .before .before in
-    let n = f .before .before .before .before .before .before in
-    named _ _ _ _ _ _ _ _ _ (n .before .command-word .result) (n .names .ensures) (f .before .part .ensures) (n .before .command-word .ensures) (f .put-filled .ensures)
+    let w = f .before .before .before .before in
+    named _ _ _ _ _ _ _ (w .command-word .result) (w .command-word .ensures) (f .put-filled .ensures)
 
 pub put-item-spec : {M : Type 1} → statement M
 put-item-spec =
     tie.close
     (tie.spec
     command-word-requires
-    names-requires
     slice-aggregate-put-filled
     slice-aggregate-put-filled-2
-    slice-aggregate-part
-    part-requires
     put-filled-requires
     same-length
     returns)

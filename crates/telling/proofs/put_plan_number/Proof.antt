@@ -19,20 +19,11 @@ returns c = search (no-number, needs)
 kind-word-requires : tie.Need-kind-word-requires
 kind-word-requires c κs = search needs
 
-names-requires : tie.Need-names-requires
-names-requires c κs = search needs
-
 slice-aggregate-put-filled : tie.Need-slice-aggregate-put-filled
 slice-aggregate-put-filled c = search needs
 
 slice-aggregate-put-filled-2 : tie.Need-slice-aggregate-put-filled-2
 slice-aggregate-put-filled-2 c = search needs
-
-slice-aggregate-part : tie.Need-slice-aggregate-part
-slice-aggregate-part c = search needs
-
-part-requires : tie.Need-part-requires
-part-requires c κs = search needs
 
 put-filled-requires : tie.Need-put-filled-requires
 put-filled-requires c κs = search needs
@@ -41,10 +32,10 @@ same-length-2 : tie.Need-same-length-2
 same-length-2 c = search needs
 
 returns-2 : tie.Need-returns-2
-returns-2 c =
+returns-2 c = 
     let f = c .before .before in
-    let n = f .before .before .before .before .before .before in
-    some-number _ _ _ _ _ _ (n .before .before .if1 .left) (named _ _ _ _ _ _ _ _ _ (n .before .kind-word .result) (n .names .ensures) (f .before .part .ensures) (n .before .kind-word .ensures) (f .put-filled .ensures))
+    let w = f .before .before .before .before in
+    some-number _ _ _ _ _ _ (w .before .if1 .left) (named _ _ _ _ _ _ _ (w .kind-word .result) (w .kind-word .ensures) (f .put-filled .ensures))
 
 pub put-plan-number-spec : {M : Type 1} → statement M
 put-plan-number-spec =
@@ -55,11 +46,8 @@ put-plan-number-spec =
     same-length
     returns
     kind-word-requires
-    names-requires
     slice-aggregate-put-filled
     slice-aggregate-put-filled-2
-    slice-aggregate-part
-    part-requires
     put-filled-requires
     same-length-2
     returns-2)
