@@ -1,9 +1,7 @@
 -- Text in a lent buffer: what stands before a place is the text so far.
-use Prim.Native.Nat.{ℕ, _+_, min}
+use Prim.Native.Nat.{ℕ}
 use mathlib.Core.Path.{_≡_}
-use mathlib.Core.Bool.{cond}
 use mathlib.Core.List.{List, _++_}
-use lib.Dec.{leb}
 use lib.ListN.{length, take}
 
 -- the text so far, which ends at a place, and more behind it, as far as the buffer has room
@@ -15,7 +13,3 @@ pub record Adds (more before : List ℕ) (at : ℕ) (after : List ℕ) (r : ℕ)
   pub text : take r after ≡ added before at more
   pub size : r ≡ length (added before at more)
   pub room : length after ≡ length before
-
--- where a text ends after it was made room for: where it did, or at the buffer's start once it is written
-unfoldable pub sent : List ℕ → ℕ → ℕ → ℕ
-sent out at room = let end = min at (length out) in cond (leb (end + room) (length out)) end 0

@@ -1,15 +1,13 @@
 -- Laws of text that is added to.
-use Prim.Native.Nat.{ℕ, zero, suc, _+_, _/_, _%_, _-_, _<_, _≤_, min}
+use Prim.Native.Nat.{ℕ, zero, suc, _+_, _/_, _%_, _<_, _≤_, min}
 use mathlib.Core.Path.{_≡_, refl, ap, sym, _∙_}
 use mathlib.Core.List.{List, [], _∷_, _++_, append-assoc, append-nil}
 use native.Mathlib.Numerals.{add-one}
 use native.Mathlib.Omega.{arith}
-use native.Mathlib.Decide.{decLe}
-use lib.ListN.{length, take, drop, set, getD, drop-of-length-le, length-drop, length-take, length-append, length-set}
+use lib.ListN.{length, take, set, getD, length-take, length-append, length-set}
 use lib.Seq.{take-all, take-suc, take-length, take-append-seam, take-suc-set, length-take-le}
-use borrow.Author.Tests.{le-leb, lt-leb}
-use Rattle.io.specs.Counts.{Counts}
-use Rattle.text.specs.Added.{added, Adds, sent}
+use Rattle.parts.specs.Laws.{front-again}
+use Rattle.text.specs.Added.{added, Adds}
 use Rattle.text.specs.Digits.{digit, each, twoDigits}
 
 take-again : (n : ℕ) (a b : List ℕ) → take n (take n a ++ b) ≡ take n (a ++ b)
@@ -25,11 +23,6 @@ adds-both {t} {u} {before} {between} {after} {at} {n} {r} first second =
   where
     both : added between n u ≡ added before at (t ++ u)
     both = rw (first .room, first .text, take-again, append-assoc)
-
-pub front-again : (n : ℕ) (l : List ℕ) → take (length (take n l)) l ≡ take n l
-front-again zero l = refl
-front-again (suc n) [] = refl
-front-again (suc n) (x ∷ l) = ap (λ (k : List ℕ). x ∷ k) (front-again n l)
 
 -- a byte and what follows it
 pub adds-after : (b : ℕ) (t : List ℕ) {before between after : List ℕ} {at n r : ℕ} → Adds (b ∷ []) before at between n → Adds t between n after r → Adds (b ∷ t) before at after r
@@ -94,45 +87,3 @@ module _ (l before between after : List ℕ) (at i n r : ℕ) (h : i < length l)
 -- at the end it is the whole list
 pub whole-list : (text : List ℕ → List ℕ) (l before after : List ℕ) (at i r : ℕ) → length l ≤ i → Adds (text (take i l)) before at after r → Adds (text l) before at after r
 whole-list text l before after at i r most adds = rw (take-all i l most) at adds
-
--- the front of a list
-pub counted : (n : ℕ) (l : List ℕ) → n < length l → n ≡ length (take n l)
-counted n l h = sym (length-take-le n l (omega arith))
-
-pub all-front : (n : ℕ) (l : List ℕ) → length l ≤ n → l ≡ take n l
-all-front n l h = sym (take-all n l h)
-
--- a part of a list
-module _ (l : List ℕ) (from start n : ℕ) (is : start ≡ min from (length l)) where
-  from-there : drop start l ≡ drop from l
-  from-there = go (decLe from (length l))
-    where
-      go : Dec (from ≤ length l) → drop start l ≡ drop from l
-      go (yes h) = let same : start ≡ from = omega arith in ap (λ (k : ℕ). drop k l) same
-      go (no h) =
-          let past : length l ≤ start = omega arith in
-          let far : length l ≤ from = omega arith in
-          drop-of-length-le l past ∙ sym (drop-of-length-le l far)
-
-  pub some-part : take (start + n - start) (drop start l) ≡ take n (drop from l)
-  some-part = let size : start + n - start ≡ n = omega arith in ap (λ (k : ℕ). take k (drop start l)) size ∙ ap (λ (k : List ℕ). take n k) from-there
-
-  pub whole-part : length l - start ≤ n → take (length l - start) (drop start l) ≡ take n (drop from l)
-  whole-part h =
-      take-all (length l - start) (drop start l) (omega (arith, length-drop start l))
-      ∙ sym (take-all n (drop start l) (omega (arith, length-drop start l)))
-      ∙ ap (λ (k : List ℕ). take n k) from-there
-
--- the places in a buffer, and its end for those past it
-pub within-place : (n r : ℕ) (l : List ℕ) → r ≡ min n (length l) → (r ≡ min n (length l)) × Counts r l
-within-place n r l e = let h : r ≤ length l = omega arith in (e, (h, sym (length-take-le r l h)))
-
--- making room for text
-module _ (out : List ℕ) (at room end : ℕ) (is : end ≡ min at (length out)) where
-  pub sent-none : room ≤ length out - end → end ≡ sent out at room
-  unfolding sent
-  sent-none h = is ∙ sym (rw (le-leb (min at (length out) + room) (length out) (omega arith)))
-
-  pub sent-all : length out - end < room → 0 ≡ sent out at room
-  unfolding sent
-  sent-all h = sym (rw (lt-leb (min at (length out) + room) (length out) (omega arith)))

@@ -3,5 +3,4 @@ pub mod Added
 pub mod Digits
 pub mod Laws
 pub mod Numbers
-pub mod Unread
 pub mod Words

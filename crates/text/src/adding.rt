@@ -1,41 +1,10 @@
 // Text behind the text so far, which ends at a place. Each function answers where the text then ends; past the buffer's end nothing is kept.
-ghost use Prim.Native.Nat.{_<_, min};
+ghost use Prim.Native.Nat.{_<_};
 ghost use mathlib.Core.Path.{_≡_};
 ghost use mathlib.Core.List.{[], _∷_};
-ghost use lib.ListN.{length, take, drop};
-ghost use Rattle.io.specs.Counts.{Counts};
 ghost use Rattle.text.specs.Added.{Adds};
 ghost use Rattle.text.specs.Digits.{digit as Digits·digit, decimal, afterSpace, spaced, twoDigits, hex};
-
-// Where the text so far ends, in the buffer.
-pub fn within(at: usize, out: &[u8]) -> usize
-    ensures { λ r. ⌜ r ≡ min at (length (now (out .entry))) ⌝ }
-    ensures { λ r. ⌜ Counts r (now (out .entry)) ⌝ }
-{
-    if at < out.len() { at } else { out.len() }
-}
-
-// The bytes from a place on, n of them, or as many as there are.
-pub fn part(bytes: &[u8], from: usize, n: usize) -> &[u8]
-    ensures { λ r. ⌜ now r ≡ take n (drop from (now (bytes .entry))) ⌝ }
-{
-    let start = within(from, bytes);
-    if n < bytes.len() - start {
-        let end = start + n;
-        return &bytes[start..end];
-    }
-    &bytes[start..]
-}
-
-// The first numbers of a list, or all where there are fewer.
-pub fn first(list: &[u64], n: usize) -> &[u64]
-    ensures { λ r. ⌜ now r ≡ take n (now (list .entry)) ⌝ }
-{
-    if n < list.len() {
-        return &list[..n];
-    }
-    list
-}
+use parts::within;
 
 pub fn put_byte(out: &mut [u8], at: usize, byte: u8) -> usize
     ensures { λ r. ⌜ Adds (byte ∷ []) (now (out .entry)) at (now (out .exit)) r ⌝ }

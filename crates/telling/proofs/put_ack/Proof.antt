@@ -35,7 +35,7 @@ same-length c = search needs
 
 returns : tie.Need-returns
 unfolding messageText
-returns c = 
+returns c =
     let p = c .before .before in
     let f = p .before .before .before .before in
     let w = f .before .before .before .before .before .before .before in

@@ -22,7 +22,7 @@ same-length c = search needs
 
 returns : tie.Need-returns
 unfolding itemText
-returns c = 
+returns c =
     let f = c .before .before in
     let w = f .before .before .before .before in
     named _ _ _ _ _ _ _ (w .command-word .result) (w .command-word .ensures) (f .put-filled .ensures)

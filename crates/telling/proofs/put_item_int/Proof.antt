@@ -32,7 +32,7 @@ same-length c = search needs
 
 returns : tie.Need-returns
 unfolding messageText
-returns c = 
+returns c =
     let i = c .before .before in
     let f = i .before .before .before .before in
     let w = f .before in

@@ -32,7 +32,7 @@ same-length-2 : tie.Need-same-length-2
 same-length-2 c = search needs
 
 returns-2 : tie.Need-returns-2
-returns-2 c = 
+returns-2 c =
     let f = c .before .before in
     let w = f .before .before .before .before in
     some-number _ _ _ _ _ _ (w .before .if1 .left) (named _ _ _ _ _ _ _ (w .kind-word .result) (w .kind-word .ensures) (f .put-filled .ensures))

@@ -31,7 +31,7 @@ same-length c = search needs
 
 returns : tie.Need-returns
 unfolding messageText
-returns c = 
+returns c =
     let f = c .before .before in
     let w = f .before .before .before .before .before .before .before in
     named _ _ _ _ _ _ _ (w .kind-word .result) (w .kind-word .ensures) (f .put-filled .ensures)

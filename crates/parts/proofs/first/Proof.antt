@@ -1,0 +1,18 @@
+-- `parts::first` meets its contract.
+use denote.Ref.{now}
+use Rattle.parts.specs.Laws.{counted, all-front}
+use borrow.Author.Needs.{needs}
+use Rattle.parts.proofs.first.Statement.{statement}
+use Rattle.parts.proofs.first.Tie as tie
+
+slice-aggregate-result : tie.Need-slice-aggregate-result
+slice-aggregate-result c = let a = c .before .before .args in counted (a .n) (now (a .list)) (c .before .if1 .taken)
+
+returns : tie.Need-returns
+returns c = search needs
+
+returns-2 : tie.Need-returns-2
+returns-2 c = let a = c .before .args in all-front (a .n) (now (a .list)) (c .if1 .left)
+
+pub first-spec : {M : Type 1} → statement M
+first-spec = tie.close (tie.spec slice-aggregate-result returns returns-2)

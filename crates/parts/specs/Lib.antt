@@ -1,0 +1,2 @@
+-- What the proofs over parts of slices cite.
+pub mod Laws
