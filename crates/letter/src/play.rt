@@ -69,7 +69,7 @@ fn put_after_silence(
     reply: &[u8; REPLY_BYTES],
 ) -> usize {
     let pattern = b"# ms after the last item taken the drone says to ";
-    let at = put_filled(out, at, pattern, &[ms as u64], words::no_word());
+    let at = put_of_kind(out, at, pattern, ms as u64, 0, FLIGHT);
     telling::put_answer(out, at, id, reply)
 }
 
@@ -120,7 +120,7 @@ pub fn silence(
 // What is told of a command: an item to fly, or the end.
 fn put_command(out: &mut [u8; OUTPUT], at: usize, command: Command) -> usize {
     match command {
-        Command::Fly(n) => put_filled(out, at, b" item #,", &[n as u64], words::no_word()),
+        Command::Fly(n) => put_of_kind(out, at, b" item #,", n as u64, 0, FLIGHT),
         Command::Finished => text::put(out, at, b" finished.\n"),
         _ => text::put(out, at, b" another command,"),
     }
