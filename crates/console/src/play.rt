@@ -13,6 +13,12 @@ pub struct Played {
     pub at: usize,
 }
 
+// The front part of an array that a call is lent.
+fn front(bytes: &mut [u8], n: usize) -> &mut [u8] {
+    let end = text::within(n, bytes);
+    &mut bytes[..end]
+}
+
 fn message(
     r: Record,
     payload: &[u8],
@@ -22,13 +28,10 @@ fn message(
     state: State,
 ) -> Played {
     let mut reply = [REPLY_FILL; REPLY_ARRAY];
-    let lent: &mut [u8] = &mut reply;
-    let store_end = text::within(r.store, store);
-    let reply_end = text::within(r.reply, lent);
     let served = service::message(
         state,
-        &mut store[..store_end],
-        &mut lent[..reply_end],
+        front(store, r.store),
+        front(&mut reply, r.reply),
         r.b0,
         r.b1,
         r.b2,
@@ -66,6 +69,23 @@ fn done(r: Record, out: &mut [u8], at: usize, store: &[u8], state: State) -> Pla
     Played { state, at }
 }
 
+// A call of the service, and its line.
+fn call(
+    r: Record,
+    payload: &[u8],
+    out: &mut [u8],
+    at: usize,
+    store: &mut [u8],
+    state: State,
+) -> Played {
+    let kind = r.kind;
+    match kind {
+        script::MESSAGE => message(r, payload, out, at, store, state),
+        script::TIMER => timer(r, out, at, store, state),
+        _ => done(r, out, at, store, state),
+    }
+}
+
 // What a host does between the calls.
 fn between(
     r: Record,
@@ -85,10 +105,27 @@ fn between(
             state
         }
         script::POKE => host::poked(state, r.b4, r.b0, r.a),
-        _ => {
+        script::WRITE => {
             host::write(store, r.a as usize, payload);
             state
         }
+        _ => state,
+    }
+}
+
+// The lines of what is shown between the calls.
+fn put_shown(
+    kind: u8,
+    out: &mut [u8],
+    at: usize,
+    store: &[u8; STORE_ARRAY],
+    copy: &[u8; STORE_ARRAY],
+    state: State,
+) -> usize {
+    match kind {
+        script::DUMP => dump::put_dump(out, at, state, store),
+        script::CMP => lines::put_row(out, at, b's', &[check::same(store, copy) as u64]),
+        _ => at,
     }
 }
 
@@ -103,24 +140,12 @@ pub fn record(
     state: State,
 ) -> Played {
     let payload = text::part(bytes, HEADER_BYTES, r.len);
-    let kind = r.kind;
-    match kind {
-        script::MESSAGE => message(r, payload, out, at, store, state),
-        script::TIMER => timer(r, out, at, store, state),
-        script::DONE => done(r, out, at, store, state),
-        script::DUMP => {
-            let at = dump::put_dump(out, at, state, store);
-            Played { state, at }
-        }
-        script::CMP => {
-            let at = lines::put_row(out, at, b's', &[check::same(store, copy) as u64]);
-            Played { state, at }
-        }
-        _ => {
-            let state = between(r, payload, store, copy, state);
-            Played { state, at }
-        }
+    if r.kind <= script::DONE {
+        return call(r, payload, out, at, store, state);
     }
+    let at = put_shown(r.kind, out, at, store, copy, state);
+    let state = between(r, payload, store, copy, state);
+    Played { state, at }
 }
 
 // What is unread after a record.

@@ -1,29 +1,23 @@
 // The drone's mission service: a fresh start, a message, a timer call and "command done". These are its only public calls; none asks anything of its
 // caller. What each promises is `Serves` of specs/Calls.antt, over the rules' own step.
-ghost use mathlib.Core.Path.{_≡_};
 ghost use lib.ListN.{length};
 ghost use mathlib.Core.List.{[]};
 ghost use Rattle.rules.specs.Messages.{station};
 ghost use Rattle.rules.specs.Calls as calls;
-ghost use Rattle.plan.specs.View.{freshState};
 ghost use Rattle.service.specs.Calls.{Serves, servedResult, advanceResult};
 use answers::Served;
 use answers::say::NO_REPLY;
 use next_command::Command;
 use plan::State;
 
+// A fresh start: every plan empty, item 0 the current one and not begun.
+pub use plan::fresh;
+
 // What a "command done" call returns: the state after it, its outcome, and the command.
 pub struct Advanced {
     pub state: State,
     pub outcome: u8,
     pub command: Command,
-}
-
-// A fresh start. Wrong answers that this rules out: an item that is begun already, and item 1 as the current one.
-pub fn fresh() -> State
-    ensures { λ r. ⌜ r ≡ freshState ⌝ }
-{
-    plan::fresh()
 }
 
 // A message call. Wrong answers that this rules out: refusing everything, and a reply that goes to another station than the sender.
