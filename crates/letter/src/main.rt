@@ -1,86 +1,62 @@
-// Plays a grower's three questions as calls of the service, and tells each message, each answer and the plan that stands.
+// Plays a story from standard input, as a grower's three questions: its text is told as it stands, its steps are calls of the service, each told with its
+// answer.
 mod payload;
 mod play;
 mod story;
 
 use limits::STORE_BYTES;
-use plan::State;
 use play::OUTPUT;
-use play::Played;
-use story::LINES;
-use story::Step;
 
-// How far the text of the story is told, and where the output ends.
+// The longest story.
+const STORY: usize = 4096;
+
+// Where a story goes on, and where the text ends.
 struct Told {
     from: usize,
     at: usize,
 }
 
-// What is told up to the end of a line, or up to a bar.
-fn put_line(all: &[u8; LINES], told: Told, out: &mut [u8; OUTPUT]) -> Told {
-    let mut end = told.at;
-    let mut i = told.from;
-    while i < LINES {
-        let byte = all[i];
+// What is told up to the next step, or up to the end.
+fn put_text(story: &[u8], from: usize, out: &mut [u8; OUTPUT], at: usize) -> Told {
+    let mut end = at;
+    let mut i = from;
+    while i < story.len() {
+        let byte = story[i];
         i += 1;
-        if byte == b'|' {
+        if byte == story::MARK {
             break;
         }
         end = text::put_byte(out, end, byte);
-        if byte == b'\n' {
-            break;
-        }
     }
     Told { from: i, at: end }
-}
-
-fn put_lines(all: &[u8; LINES], told: Told, out: &mut [u8; OUTPUT], n: u16) -> Told {
-    let mut told = told;
-    let mut i: u16 = 0;
-    while i < n {
-        told = put_line(all, told, out);
-        i += 1;
-    }
-    told
-}
-
-// A step that makes a call.
-fn call(
-    s: Step,
-    out: &mut [u8; OUTPUT],
-    at: usize,
-    store: &mut [u8; STORE_BYTES],
-    state: State,
-) -> Played {
-    let op = s.op;
-    match op {
-        story::SILENCE => play::silence(s, out, at, store, state),
-        story::FLY => play::fly(out, at, store, state),
-        _ => play::message(s, out, at, store, state),
-    }
 }
 
 fn finish(out: &[u8; OUTPUT], at: usize) {
     text::send(out, at, usize::MAX);
 }
 
+// Each turn tells the text up to a step and the step, so that there are no more turns than bytes.
 fn main() {
-    let all = story::text();
+    let mut input = [0u8; STORY];
     let mut out = [0u8; OUTPUT];
     let mut store = [0u8; STORE_BYTES];
     let mut state = service::fresh();
-    let mut told = Told { from: 0, at: 0 };
-    let mut i: u8 = 0;
-    while i < story::STEPS {
-        let s = story::step_at(i);
-        if s.op == story::TELL {
-            told = put_lines(&all, told, &mut out, s.n);
-        } else {
-            let played = call(s, &mut out, told.at, &mut store, state);
-            state = played.state;
-            told.at = played.at;
+    let read = text::read_on(&mut input, 0, 0, STORY);
+    let story = text::part(&input, read.at, read.end);
+    let mut i = 0;
+    let mut at = 0;
+    let mut turns = STORY;
+    while 0 < turns {
+        let told = put_text(story, i, &mut out, at);
+        let s = story::step_at(story, told.from);
+        let played = play::step(s, &mut out, told.at, &mut store, state);
+        i = s.end;
+        at = played.at;
+        state = played.state;
+        turns -= 1;
+        if story.len() <= told.from {
+            break;
         }
-        i += 1;
     }
-    finish(&out, told.at);
+    finish(&out, at);
 }

@@ -1,35 +1,43 @@
--- `letter::main` meets its contract: the steps are counted.
-use Prim.Native.Nat.{_-_, _≤_}
+-- `letter::main` meets its contract. The loop's measure is the count of turns left.
 use borrow.Author.Needs.{needs}
 use Rattle.letter.proofs.main.Statement.{statement}
 use Rattle.letter.proofs.main.Tie as tie
 
 abbrev Inv-loop : tie.InvT-loop
-Inv-loop all out₀ store₀ state₀ told₀ i₀ out store state told i = i ≤ 73
+Inv-loop out₀ store₀ state₀ story i₀ at₀ turns₀ out store state i at turns = Unit {0}
 
 abbrev μ-loop : tie.MeasureT-loop
-μ-loop all out₀ store₀ state₀ told₀ i₀ out store state told i = 73 - i
-
-text-requires : tie.Need-text-requires Inv-loop μ-loop
-text-requires c κs = search needs
+μ-loop out₀ store₀ state₀ story i₀ at₀ turns₀ out store state i at turns = turns
 
 fresh-requires : tie.Need-fresh-requires Inv-loop μ-loop
 fresh-requires c κs = search needs
 
+slice-aggregate-read-on : tie.Need-slice-aggregate-read-on Inv-loop μ-loop
+slice-aggregate-read-on c = search needs
+
+read-on-requires : tie.Need-read-on-requires Inv-loop μ-loop
+read-on-requires c κs = search needs
+
+slice-aggregate-part : tie.Need-slice-aggregate-part Inv-loop μ-loop
+slice-aggregate-part c = search needs
+
+part-requires : tie.Need-part-requires Inv-loop μ-loop
+part-requires c κs = search needs
+
 loop-holds : tie.Need-loop-holds Inv-loop μ-loop
 loop-holds c = search needs
+
+put-text-requires : tie.Need-put-text-requires Inv-loop μ-loop
+put-text-requires c κs = search needs
 
 step-at-requires : tie.Need-step-at-requires Inv-loop μ-loop
 step-at-requires c κs = search needs
 
-put-lines-requires : tie.Need-put-lines-requires Inv-loop μ-loop
-put-lines-requires c κs = search needs
+step-requires : tie.Need-step-requires Inv-loop μ-loop
+step-requires c κs = search needs
 
-call-requires : tie.Need-call-requires Inv-loop μ-loop
-call-requires c κs = search needs
-
-add-i : tie.Need-add-i Inv-loop μ-loop
-add-i c = search needs
+sub-turns : tie.Need-sub-turns Inv-loop μ-loop
+sub-turns c = search needs
 
 loop-less : tie.Need-loop-less Inv-loop μ-loop
 loop-less c = search needs
@@ -49,13 +57,16 @@ main-spec =
     (tie.spec
     Inv-loop
     μ-loop
-    text-requires
     fresh-requires
+    slice-aggregate-read-on
+    read-on-requires
+    slice-aggregate-part
+    part-requires
     loop-holds
+    put-text-requires
     step-at-requires
-    put-lines-requires
-    call-requires
-    add-i
+    step-requires
+    sub-turns
     loop-less
     loop-again
     finish-requires

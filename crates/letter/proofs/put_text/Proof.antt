@@ -1,20 +1,21 @@
--- `letter::put_line` meets its contract: the text of the story ends.
+-- `letter::put_text` meets its contract: each turn passes over a byte.
 use Prim.Native.Nat.{_-_}
+use lib.ListN.{length}
 use borrow.Author.Needs.{needs}
-use Rattle.letter.proofs.put_line.Statement.{statement}
-use Rattle.letter.proofs.put_line.Tie as tie
+use Rattle.letter.proofs.put_text.Statement.{statement}
+use Rattle.letter.proofs.put_text.Tie as tie
 
 abbrev Inv-loop : tie.InvT-loop
-Inv-loop all out₀ end₀ i₀ out end i = Unit {0}
+Inv-loop story from out₀ at end₀ i₀ out end i = Unit {0}
 
 abbrev μ-loop : tie.MeasureT-loop
-μ-loop all out₀ end₀ i₀ out end i = 954 - i
+μ-loop story from out₀ at end₀ i₀ out end i = length story - i
 
 loop-holds : tie.Need-loop-holds Inv-loop μ-loop
 loop-holds c = search needs
 
-element-copy-out-byte : tie.Need-element-copy-out-byte Inv-loop μ-loop
-element-copy-out-byte c = search needs
+shared-slice-read-byte : tie.Need-shared-slice-read-byte Inv-loop μ-loop
+shared-slice-read-byte c = search needs
 
 add-i : tie.Need-add-i Inv-loop μ-loop
 add-i c = search needs
@@ -34,21 +35,17 @@ returns c = search needs
 returns-2 : tie.Need-returns-2 Inv-loop μ-loop
 returns-2 c = search needs
 
-returns-3 : tie.Need-returns-3 Inv-loop μ-loop
-returns-3 c = search needs
-
-pub put-line-spec : {M : Type 1} → statement M
-put-line-spec =
+pub put-text-spec : {M : Type 1} → statement M
+put-text-spec =
     tie.close
     (tie.spec
     Inv-loop
     μ-loop
     loop-holds
-    element-copy-out-byte
+    shared-slice-read-byte
     add-i
     put-byte-requires
     loop-less
     loop-again
     returns
-    returns-2
-    returns-3)
+    returns-2)
