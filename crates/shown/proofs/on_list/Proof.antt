@@ -39,7 +39,10 @@ same-length : tie.Need-same-length
 same-length c = search needs
 
 returns : tie.Need-returns
-returns c store = search (listed, needs)
+returns c store =
+    let w = c .before .before in
+    let entry = w .before .before .before .before .before in
+    listed _ _ _ _ _ _ _ _ (entry .pre .1) (w .before .before .number-shown .ensures) (w .write-count .ensures) store
 
 pub on-list-spec : {M : Type 1} → statement M
 on-list-spec =

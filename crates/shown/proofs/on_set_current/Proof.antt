@@ -64,7 +64,14 @@ same-length : tie.Need-same-length
 same-length c = search needs
 
 returns : tie.Need-returns
-returns c store = search (chosen-now, needs)
+returns c store =
+    let w = c .before .before .before in
+    let numbers = w .before .before in
+    let test = numbers .before .before .before in
+    let entry = test .before .before .before .before .before .before in
+    chosen-now _ _ _ _ _ (entry .pre) _ _ _ _ (test .if1 .taken) (c .chosen-state .ensures)
+    (numbers .before .before .number-shown .ensures) (numbers .before .number-shown2 .ensures) (numbers .number-shown3 .ensures)
+    (w .write-current .ensures) store
 
 no-such-item-requires : tie.Need-no-such-item-requires
 no-such-item-requires c κs = search needs
