@@ -97,44 +97,23 @@ fn told(id: u32, reply: &[u8]) -> Line
     match id {
         wire::COUNT_ID => {
             let m = wire::read_count(reply);
-            let name = words::kind_word(m.kind);
-            addressed(
-                7,
-                29,
-                m.system,
-                m.component,
-                m.count,
-                m.number,
-                0,
-                name,
-                0,
-                0,
-            )
+            let w = words::kind_word(m.kind);
+            addressed(7, 29, m.system, m.component, m.count, m.number, 0, w, 0, 0)
         }
         wire::ACK_ID => {
             let m = wire::read_ack(reply);
-            let name = words::result_word(m.result);
-            addressed(
-                63,
-                14,
-                m.system,
-                m.component,
-                m.result as u16,
-                0,
-                0,
-                name,
-                m.kind,
-                m.number,
-            )
+            let w = words::result_word(m.result);
+            let n = m.result as u16;
+            addressed(63, 14, m.system, m.component, n, 0, 0, w, m.kind, m.number)
         }
         wire::REQUEST_INT_ID => {
             let m = wire::read_request_int(reply);
-            let name = words::kind_word(m.kind);
-            addressed(37, 25, m.system, m.component, m.seq, 0, 0, name, 0, 0)
+            let w = words::kind_word(m.kind);
+            addressed(37, 25, m.system, m.component, m.seq, 0, 0, w, 0, 0)
         }
         wire::ITEM_INT_ID => {
             let m = wire::read_item_int(reply);
-            let name = words::command_word(m.item.command);
+            let w = words::command_word(m.item.command);
             addressed(
                 95,
                 22,
@@ -143,7 +122,7 @@ fn told(id: u32, reply: &[u8]) -> Line
                 m.item.seq,
                 m.item.bits_x,
                 m.item.bits_y,
-                name,
+                w,
                 0,
                 0,
             )

@@ -1,5 +1,5 @@
 -- `telling::told` meets its contract, for each id.
-use mathlib.Core.Path.{refl, _∙_}
+use mathlib.Core.Path.{refl}
 use Rattle.telling.specs.Told.{answerText}
 use Rattle.telling.proofs.Ways.{count-told, ack-told, request-told, item-told, as-answer, to-nobody}
 use borrow.Author.Needs.{needs}
@@ -21,8 +21,8 @@ read-ack-requires c κs = search needs
 result-word-requires : tie.Need-result-word-requires
 result-word-requires c κs = search needs
 
-cast-addressed : tie.Need-cast-addressed
-cast-addressed c = search needs
+cast-n : tie.Need-cast-n
+cast-n c = search needs
 
 addressed-requires-2 : tie.Need-addressed-requires-2
 addressed-requires-2 c κs = search needs
@@ -56,28 +56,28 @@ unfolding answerText
 returns c =
     let w = c .before in
     let m = w .before in
-    as-answer _ _ _ 44 _ (m .before .match .keys1) (m .read-count .ensures) refl (c .addressed .ensures ∙ count-told _ _ _ _ _ _ (w .kind-word .ensures))
+    as-answer _ _ _ 44 _ (m .before .match .keys1) (m .read-count .ensures) refl (count-told _ _ _ _ _ _ _ (w .kind-word .ensures) (c .addressed .ensures))
 
 returns-2 : tie.Need-returns-2
 unfolding answerText
 returns-2 c =
     let w = c .before .before in
     let m = w .before in
-    as-answer _ _ _ 47 _ (m .before .match .keys2) (m .read-ack .ensures) refl (c .addressed2 .ensures ∙ ack-told _ _ _ _ _ _ (w .result-word .ensures))
+    as-answer _ _ _ 47 _ (m .before .match .keys2) (m .read-ack .ensures) refl (ack-told _ _ _ _ _ _ _ (w .result-word .ensures) (c .addressed2 .ensures))
 
 returns-3 : tie.Need-returns-3
 unfolding answerText
 returns-3 c =
     let w = c .before in
     let m = w .before in
-    as-answer _ _ _ 51 _ (m .before .match .keys3) (m .read-request-int .ensures) refl (c .addressed3 .ensures ∙ request-told _ _ _ _ _ (w .kind-word2 .ensures))
+    as-answer _ _ _ 51 _ (m .before .match .keys3) (m .read-request-int .ensures) refl (request-told _ _ _ _ _ _ (w .kind-word2 .ensures) (c .addressed3 .ensures))
 
 returns-4 : tie.Need-returns-4
 unfolding answerText
 returns-4 c =
     let w = c .before in
     let m = w .before in
-    as-answer _ _ _ 73 _ (m .before .match .keys4) (m .read-item-int .ensures .0) refl (c .addressed4 .ensures ∙ item-told _ _ _ _ _ (w .command-word .ensures))
+    as-answer _ _ _ 73 _ (m .before .match .keys4) (m .read-item-int .ensures .0) refl (item-told _ _ _ _ _ _ (w .command-word .ensures) (c .addressed4 .ensures))
 
 returns-5 : tie.Need-returns-5
 returns-5 c =
@@ -93,7 +93,7 @@ told-spec =
     addressed-requires
     read-ack-requires
     result-word-requires
-    cast-addressed
+    cast-n
     addressed-requires-2
     read-request-int-requires
     kind-word-requires-2
