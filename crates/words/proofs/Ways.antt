@@ -1,5 +1,5 @@
 -- Patterns that are filled, piece by piece, and names that are none of those listed.
-use Prim.Native.Nat.{ℕ, _+_, _-_, _%_, _<_, _≤_}
+use Prim.Native.Nat.{ℕ, _+_, _-_, _/_, _%_, _<_, _≤_, min}
 use mathlib.Core.Path.{_≡_, sym}
 use mathlib.Core.List.{List, [], _∷_}
 use native.Mathlib.Numerals.{add-one}
@@ -7,10 +7,11 @@ use native.Mathlib.Omega.{arith}
 use lib.ListN.{length, getD, take, drop, List·getD-eq-default}
 use borrow.Author.Tests.{ne-eqb, lt-ltb, le-ltb}
 use Rattle.text.specs.Added.{Adds}
-use Rattle.text.specs.Laws.{adds-both, adds-after}
+use Rattle.text.specs.Digits.{decimal}
+use Rattle.text.specs.Laws.{adds-both, adds-nothing}
 use Rattle.text.specs.Words.{ascii}
 use Rattle.words.specs.declared.naming.Word.{Word}
-use Rattle.words.specs.Filled.{magnitude, unitsText, degreesText, piece, takes, taken, filledTo, filled}
+use Rattle.words.specs.Filled.{magnitude, decimals, unitsText, signText, degreesText, piece, takes, taken, filledTo, filled}
 use Rattle.words.specs.Names.{names, wordText, kindName, resultName, commandName}
 
 pub no-number : (l : List ℕ) (i : ℕ) → length l ≤ i → 0 ≡ getD l i 0
@@ -25,14 +26,25 @@ module _ (n : ℕ) where
   unfolding magnitude
   negative h = rw (le-ltb (n % 4294967296) 2147483648 h)
 
-  module _ (m : ℕ) (is : m ≡ magnitude n) (before between after : List ℕ) (at k r : ℕ) where
-    pub east : n % 4294967296 < 2147483648 → Adds (unitsText m) before at after r → Adds (degreesText n) before at after r
-    unfolding degreesText
-    east h adds = rw (lt-ltb (n % 4294967296) 2147483648 h, ← is) adds
+module _ (n : ℕ) (before : List ℕ) (at r : ℕ) where
+  pub no-sign : n % 4294967296 < 2147483648 → r ≡ min at (length before) → Adds (signText n) before at before r
+  unfolding signText
+  no-sign h e = rw (lt-ltb (n % 4294967296) 2147483648 h) (adds-nothing before at r e)
 
-    pub west : 2147483648 ≤ n % 4294967296 → Adds (45 ∷ []) before at between k → Adds (unitsText m) between k after r → Adds (degreesText n) before at after r
-    unfolding degreesText
-    west h minus units = rw (le-ltb (n % 4294967296) 2147483648 h, ← is) (adds-after 45 (unitsText m) minus units)
+  pub minus : (after : List ℕ) → 2147483648 ≤ n % 4294967296 → Adds (45 ∷ []) before at after r → Adds (signText n) before at after r
+  unfolding signText
+  minus after h adds = rw (le-ltb (n % 4294967296) 2147483648 h) adds
+
+pub degrees
+    : (n m : ℕ) (rest before signed whole after : List ℕ) (at i k r : ℕ)
+    → m ≡ magnitude n
+    → rest ≡ decimals m
+    → Adds (signText n) before at signed i
+    → Adds (decimal (m / 10000000)) signed i whole k
+    → Adds rest whole k after r
+    → Adds (degreesText n) before at after r
+unfolding degreesText unitsText
+degrees n m rest before signed whole after at i k r is point sign units decimals = rw (← is, ← point) (adds-both sign (adds-both units decimals))
 
 pub plain-piece : (b n : ℕ) (word before after : List ℕ) (at r : ℕ) → (b ≡ 35 → ⊥) → (b ≡ 38 → ⊥) → (b ≡ 64 → ⊥) → Adds (b ∷ []) before at after r → Adds (piece b n word) before at after r
 unfolding piece
@@ -70,6 +82,6 @@ unfolding commandName
 other-command n a b c d = rw (ne-eqb n 16 a, ne-eqb n 21 b, ne-eqb n 22 c, ne-eqb n 5003 d)
 
 -- a word that is a part of the names
-pub spelt : (pattern ns part all before after : List ℕ) (at r : ℕ) (w : Word) → all ≡ names → part ≡ take (w .len) (drop (w .from) all) → Adds (filled pattern ns part) before at after r → Adds (filled pattern ns (wordText w)) before at after r
+pub spelt : (w : Word) (part all before after : List ℕ) (at r : ℕ) → all ≡ names → part ≡ take (w .len) (drop (w .from) all) → Adds part before at after r → Adds (wordText w) before at after r
 unfolding wordText
-spelt pattern ns part all before after at r w is front adds = rw (← is, ← front) adds
+spelt w part all before after at r is front adds = rw (← is, ← front) adds
