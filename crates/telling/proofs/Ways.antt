@@ -8,9 +8,9 @@ use borrow.Author.Tests.{eq-eqb, ne-eqb}
 use Rattle.rules.specs.Messages.{Message, Item, station, count, ack, requestInt, itemInt, decode}
 use Rattle.text.specs.Added.{Adds}
 use Rattle.text.specs.Words.{ascii}
-use Rattle.words.specs.declared.naming.Word.{Word}
+use Rattle.names.specs.declared.Word.{Word}
 use Rattle.words.specs.Filled.{filled, filledTo, taken, takes, piece}
-use Rattle.words.specs.Names.{wordText, kindName, resultName, commandName}
+use Rattle.names.specs.Names.{wordText, kindName, resultName, commandName}
 use Rattle.telling.specs.declared.Part.{Part}
 use Rattle.telling.specs.Told.{itemText, numberText, messageText, answerText}
 use Rattle.telling.specs.Parts.{patterns, partText}

@@ -5,7 +5,7 @@ use lib.ListN.{take, drop}
 use Rattle.rules.specs.Payload.{Bytes}
 use Rattle.text.specs.Words.{ascii}
 use Rattle.words.specs.Filled.{filled}
-use Rattle.words.specs.Names.{wordText}
+use Rattle.names.specs.Names.{wordText}
 use Rattle.telling.specs.declared.Part.{Part}
 use Rattle.telling.specs.declared.Line.{Line}
 use Rattle.telling.specs.Told.{numberText}

@@ -4,7 +4,7 @@ ghost use mathlib.Core.List.{[], _∷_, _++_};
 ghost use lib.ListN.{take, drop};
 ghost use Rattle.text.specs.Added.{Adds};
 ghost use Rattle.words.specs.Filled.{filled};
-ghost use Rattle.words.specs.Names.{wordText};
+ghost use Rattle.names.specs.Names.{wordText};
 ghost use Rattle.telling.specs.Told.{itemText, numberText, answerText};
 ghost use Rattle.telling.specs.Parts.{patterns as Parts·patterns, partText, lineText};
 use words::Word;

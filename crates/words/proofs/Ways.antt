@@ -1,4 +1,4 @@
--- Patterns that are filled, piece by piece, and names that are none of those listed.
+-- Patterns that are filled, piece by piece.
 use Prim.Native.Nat.{ℕ, _+_, _-_, _/_, _%_, _<_, _≤_, min}
 use mathlib.Core.Path.{_≡_, sym}
 use mathlib.Core.List.{List, [], _∷_}
@@ -9,10 +9,9 @@ use borrow.Author.Tests.{ne-eqb, lt-ltb, le-ltb}
 use Rattle.text.specs.Added.{Adds}
 use Rattle.text.specs.Digits.{decimal}
 use Rattle.text.specs.Laws.{adds-both, adds-nothing}
-use Rattle.text.specs.Words.{ascii}
-use Rattle.words.specs.declared.naming.Word.{Word}
+use Rattle.names.specs.declared.Word.{Word}
 use Rattle.words.specs.Filled.{magnitude, decimals, unitsText, signText, degreesText, piece, takes, taken, filledTo, filled}
-use Rattle.words.specs.Names.{names, wordText, kindName, resultName, commandName}
+use Rattle.names.specs.Names.{names, wordText}
 
 pub no-number : (l : List ℕ) (i : ℕ) → length l ≤ i → 0 ≡ getD l i 0
 no-number l i h = sym (List·getD-eq-default l 0 h)
@@ -68,18 +67,6 @@ filled-more pattern ns word before between after at i k n m r t used number taki
 
 pub all-filled : (pattern ns word before after : List ℕ) (at i r : ℕ) → i ≤ length pattern → length pattern ≤ i → Adds (filledTo pattern ns word i) before at after r → Adds (filled pattern ns word) before at after r
 all-filled pattern ns word before after at i r most least adds = let all : length pattern ≡ i = omega arith in rw all adds
-
-pub other-kind : (k : ℕ) → (k ≡ 0 → ⊥) → (k ≡ 1 → ⊥) → (k ≡ 2 → ⊥) → ascii "unknown" ≡ kindName k
-unfolding kindName
-other-kind k a b c = rw (ne-eqb k 0 a, ne-eqb k 1 b, ne-eqb k 2 c)
-
-pub other-result : (r : ℕ) → (r ≡ 0 → ⊥) → (r ≡ 13 → ⊥) → (r ≡ 14 → ⊥) → (r ≡ 15 → ⊥) → ascii "refused" ≡ resultName r
-unfolding resultName
-other-result r a b c d = rw (ne-eqb r 0 a, ne-eqb r 14 c, ne-eqb r 13 b, ne-eqb r 15 d)
-
-pub other-command : (n : ℕ) → (n ≡ 16 → ⊥) → (n ≡ 21 → ⊥) → (n ≡ 22 → ⊥) → (n ≡ 5003 → ⊥) → ascii "command" ≡ commandName n
-unfolding commandName
-other-command n a b c d = rw (ne-eqb n 16 a, ne-eqb n 21 b, ne-eqb n 22 c, ne-eqb n 5003 d)
 
 -- a word that is a part of the names
 pub spelt : (w : Word) (part all before after : List ℕ) (at r : ℕ) → all ≡ names → part ≡ take (w .len) (drop (w .from) all) → Adds part before at after r → Adds (wordText w) before at after r

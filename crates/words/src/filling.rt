@@ -4,9 +4,9 @@ ghost use mathlib.Core.Path.{_≡_};
 ghost use lib.ListN.{getD};
 ghost use Rattle.text.specs.Added.{Adds};
 ghost use Rattle.words.specs.Filled.{decimals as Filled·decimals, magnitude as Filled·magnitude, signText, degreesText, piece, takes as Filled·takes, filled};
-ghost use Rattle.words.specs.Names.{wordText};
-use crate::naming::Word;
-use crate::naming::names;
+ghost use Rattle.names.specs.Names.{wordText};
+use names::Word;
+use names::names;
 
 // The next number, or 0 past the list's end.
 fn number_at(list: &[u64], i: usize) -> u64

@@ -7,7 +7,7 @@ use borrow.Author.Needs.{needs}
 use Rattle.text.specs.Added.{Adds}
 use Rattle.text.specs.Laws.{adds-nothing}
 use Rattle.words.specs.Filled.{taken, filledTo}
-use Rattle.words.specs.Names.{wordText}
+use Rattle.names.specs.Names.{wordText}
 use Rattle.words.proofs.Ways.{filled-more, all-filled}
 use Rattle.words.proofs.filling.put_filled.Statement.{statement}
 use Rattle.words.proofs.filling.put_filled.Tie as tie

@@ -1,9 +1,9 @@
--- `words::naming::kind_word` meets its contract, for each name.
+-- `names::kind_word` meets its contract, for each name.
 use mathlib.Core.Path.{refl}
-use Rattle.words.specs.Names.{wordText, kindName}
-use Rattle.words.proofs.Ways.{other-kind}
-use Rattle.words.proofs.naming.kind_word.Statement.{statement}
-use Rattle.words.proofs.naming.kind_word.Tie as tie
+use Rattle.names.specs.Names.{wordText, kindName}
+use Rattle.names.proofs.Ways.{other-kind}
+use Rattle.names.proofs.kind_word.Statement.{statement}
+use Rattle.names.proofs.kind_word.Tie as tie
 
 returns : tie.Need-returns
 unfolding wordText kindName

@@ -1,7 +1,7 @@
 // The names of kinds, results and commands, as parts of one text.
 ghost use mathlib.Core.Path.{_≡_};
 ghost use mathlib.Core.List.{[]};
-ghost use Rattle.words.specs.Names.{names as Names·names, wordText, kindName, resultName, commandName};
+ghost use Rattle.names.specs.Names.{names as Names·names, wordText, kindName, resultName, commandName};
 
 const LETTERS: usize = 116;
 

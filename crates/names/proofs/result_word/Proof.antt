@@ -1,9 +1,9 @@
--- `words::naming::result_word` meets its contract, for each name.
+-- `names::result_word` meets its contract, for each name.
 use mathlib.Core.Path.{refl}
-use Rattle.words.specs.Names.{wordText, resultName}
-use Rattle.words.proofs.Ways.{other-result}
-use Rattle.words.proofs.naming.result_word.Statement.{statement}
-use Rattle.words.proofs.naming.result_word.Tie as tie
+use Rattle.names.specs.Names.{wordText, resultName}
+use Rattle.names.proofs.Ways.{other-result}
+use Rattle.names.proofs.result_word.Statement.{statement}
+use Rattle.names.proofs.result_word.Tie as tie
 
 returns : tie.Need-returns
 unfolding wordText resultName

@@ -1,9 +1,9 @@
--- `words::naming::command_word` meets its contract, for each name.
+-- `names::command_word` meets its contract, for each name.
 use mathlib.Core.Path.{refl}
-use Rattle.words.specs.Names.{wordText, commandName}
-use Rattle.words.proofs.Ways.{other-command}
-use Rattle.words.proofs.naming.command_word.Statement.{statement}
-use Rattle.words.proofs.naming.command_word.Tie as tie
+use Rattle.names.specs.Names.{wordText, commandName}
+use Rattle.names.proofs.Ways.{other-command}
+use Rattle.names.proofs.command_word.Statement.{statement}
+use Rattle.names.proofs.command_word.Tie as tie
 
 returns : tie.Need-returns
 unfolding wordText commandName
