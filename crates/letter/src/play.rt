@@ -31,7 +31,7 @@ fn put_of_kind(
     b: u64,
     kind: u8,
 ) -> usize {
-    put_filled(out, at, pattern, &[a, b], words::kind_word(kind))
+    put_filled(out, at, pattern, &[a, b], names::kind_word(kind))
 }
 
 // What a tablet says; after it has asked which plan stands, it asks for each item without a word.

@@ -7,7 +7,7 @@ ghost use Rattle.words.specs.Filled.{filled};
 ghost use Rattle.names.specs.Names.{wordText};
 ghost use Rattle.telling.specs.Told.{itemText, numberText, answerText};
 ghost use Rattle.telling.specs.Parts.{patterns as Parts·patterns, partText, lineText};
-use words::Word;
+use names::Word;
 
 const LETTERS: usize = 118;
 
@@ -42,7 +42,7 @@ fn plan_number(kind: u8, number: u32) -> Part
     ensures { λ r. ⌜ partText r ≡ numberText kind number ⌝ }
 {
     let list = [number as u64, 0, 0, 0, 0];
-    let word = words::kind_word(kind);
+    let word = names::kind_word(kind);
     if number == 0 {
         return Part {
             from: 94,
@@ -97,23 +97,23 @@ fn told(id: u32, reply: &[u8]) -> Line
     match id {
         wire::COUNT_ID => {
             let m = wire::read_count(reply);
-            let w = words::kind_word(m.kind);
+            let w = names::kind_word(m.kind);
             addressed(7, 29, m.system, m.component, m.count, m.number, 0, w, 0, 0)
         }
         wire::ACK_ID => {
             let m = wire::read_ack(reply);
-            let w = words::result_word(m.result);
+            let w = names::result_word(m.result);
             let n = m.result as u16;
             addressed(63, 14, m.system, m.component, n, 0, 0, w, m.kind, m.number)
         }
         wire::REQUEST_INT_ID => {
             let m = wire::read_request_int(reply);
-            let w = words::kind_word(m.kind);
+            let w = names::kind_word(m.kind);
             addressed(37, 25, m.system, m.component, m.seq, 0, 0, w, 0, 0)
         }
         wire::ITEM_INT_ID => {
             let m = wire::read_item_int(reply);
-            let w = words::command_word(m.item.command);
+            let w = names::command_word(m.item.command);
             addressed(
                 95,
                 22,
@@ -127,7 +127,7 @@ fn told(id: u32, reply: &[u8]) -> Line
                 0,
             )
         }
-        _ => addressed(0, 6, 0, 0, 0, 0, 0, words::no_word(), 0, 0),
+        _ => addressed(0, 6, 0, 0, 0, 0, 0, names::no_word(), 0, 0),
     }
 }
 
@@ -145,7 +145,7 @@ pub fn put_item(out: &mut [u8], at: usize, seq: u16, command: u16, x: u32, y: u3
     ensures { λ r. ⌜ Adds (itemText seq command x y) (now (out .entry)) at (now (out .exit)) r ⌝ }
 {
     let list = [seq as u64, x as u64, y as u64, 0, 0];
-    let word = words::command_word(command);
+    let word = names::command_word(command);
     let part = Part {
         from: 100,
         len: 18,

@@ -2,8 +2,3 @@
 mod filling;
 
 pub use filling::put_filled;
-pub use names::Word;
-pub use names::command_word;
-pub use names::kind_word;
-pub use names::no_word;
-pub use names::result_word;
