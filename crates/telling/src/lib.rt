@@ -31,13 +31,14 @@ struct Part {
     word: Word,
 }
 
-// What is told of a message: a pattern, then the plan number of a kind.
+// What is told of a message: a pattern, then a kind's plan number, or the end of the line where that is 0.
 struct Line {
     part: Part,
     kind: u8,
     number: u32,
 }
 
+// The plan number that ends a line, where there is one.
 fn plan_number(kind: u8, number: u32) -> Part
     ensures { λ r. ⌜ partText r ≡ numberText kind number ⌝ }
 {
@@ -59,7 +60,7 @@ fn plan_number(kind: u8, number: u32) -> Part
     }
 }
 
-// A pattern that begins with the station to which a message goes.
+// A line that begins with the station to which a message goes.
 fn addressed(
     from: usize,
     len: usize,
