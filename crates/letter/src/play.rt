@@ -41,7 +41,7 @@ struct Part {
 fn put_told(out: &mut [u8; OUTPUT], at: usize, t: Part, more: u64, kind: u8) -> usize {
     let all = PATTERNS;
     let pattern = text::part(&all, t.from, t.len);
-    words::put_filled(out, at, pattern, &[t.n, more], words::kind_word(kind))
+    words::put_filled(out, at, pattern, &[t.n, more], names::kind_word(kind))
 }
 
 // What a tablet says, up to the drone's answer; after it has asked which plan stands, it asks for each item without a word.

@@ -1,2 +1,3 @@
 -- The drone's answers in words.
+pub mod Parts
 pub mod Told

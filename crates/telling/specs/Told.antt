@@ -8,7 +8,7 @@ use Rattle.rules.specs.Layouts.{countId, ackId, requestIntId, itemIntId}
 use Rattle.rules.specs.Messages.{Message, setCurrent, current, requestList, count, clearAll, ack, requestInt, itemInt, statustext, unknown, decode}
 use Rattle.text.specs.Words.{ascii}
 use Rattle.words.specs.Filled.{filled}
-use Rattle.words.specs.Names.{kindName, resultName, commandName}
+use Rattle.names.specs.Names.{kindName, resultName, commandName}
 
 -- an item's number, what it asks for, and where
 unfoldable pub itemText : (seq command x y : ℕ) → Bytes

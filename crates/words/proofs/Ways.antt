@@ -1,5 +1,5 @@
--- Patterns that are filled, piece by piece, and names that are none of those listed.
-use Prim.Native.Nat.{ℕ, _+_, _-_, _%_, _<_, _≤_}
+-- Patterns that are filled, piece by piece.
+use Prim.Native.Nat.{ℕ, _+_, _-_, _/_, _%_, _<_, _≤_, min}
 use mathlib.Core.Path.{_≡_, sym}
 use mathlib.Core.List.{List, [], _∷_}
 use native.Mathlib.Numerals.{add-one}
@@ -7,11 +7,11 @@ use native.Mathlib.Omega.{arith}
 use lib.ListN.{length, getD, take, drop, List·getD-eq-default}
 use borrow.Author.Tests.{ne-eqb, lt-ltb, le-ltb}
 use Rattle.text.specs.Added.{Adds}
-use Rattle.text.specs.Laws.{adds-both, adds-after}
-use Rattle.text.specs.Words.{ascii}
-use Rattle.words.specs.declared.naming.Word.{Word}
-use Rattle.words.specs.Filled.{magnitude, unitsText, degreesText, piece, takes, taken, filledTo, filled}
-use Rattle.words.specs.Names.{names, wordText, kindName, resultName, commandName}
+use Rattle.text.specs.Digits.{decimal}
+use Rattle.text.specs.Laws.{adds-both, adds-nothing}
+use Rattle.names.specs.declared.Word.{Word}
+use Rattle.words.specs.Filled.{magnitude, decimals, unitsText, signText, degreesText, piece, takes, taken, filledTo, filled}
+use Rattle.names.specs.Names.{names, wordText}
 
 pub no-number : (l : List ℕ) (i : ℕ) → length l ≤ i → 0 ≡ getD l i 0
 no-number l i h = sym (List·getD-eq-default l 0 h)
@@ -25,14 +25,25 @@ module _ (n : ℕ) where
   unfolding magnitude
   negative h = rw (le-ltb (n % 4294967296) 2147483648 h)
 
-  module _ (m : ℕ) (is : m ≡ magnitude n) (before between after : List ℕ) (at k r : ℕ) where
-    pub east : n % 4294967296 < 2147483648 → Adds (unitsText m) before at after r → Adds (degreesText n) before at after r
-    unfolding degreesText
-    east h adds = rw (lt-ltb (n % 4294967296) 2147483648 h, ← is) adds
+module _ (n : ℕ) (before : List ℕ) (at r : ℕ) where
+  pub no-sign : n % 4294967296 < 2147483648 → r ≡ min at (length before) → Adds (signText n) before at before r
+  unfolding signText
+  no-sign h e = rw (lt-ltb (n % 4294967296) 2147483648 h) (adds-nothing before at r e)
 
-    pub west : 2147483648 ≤ n % 4294967296 → Adds (45 ∷ []) before at between k → Adds (unitsText m) between k after r → Adds (degreesText n) before at after r
-    unfolding degreesText
-    west h minus units = rw (le-ltb (n % 4294967296) 2147483648 h, ← is) (adds-after 45 (unitsText m) minus units)
+  pub minus : (after : List ℕ) → 2147483648 ≤ n % 4294967296 → Adds (45 ∷ []) before at after r → Adds (signText n) before at after r
+  unfolding signText
+  minus after h adds = rw (le-ltb (n % 4294967296) 2147483648 h) adds
+
+pub degrees
+    : (n m : ℕ) (rest before signed whole after : List ℕ) (at i k r : ℕ)
+    → m ≡ magnitude n
+    → rest ≡ decimals m
+    → Adds (signText n) before at signed i
+    → Adds (decimal (m / 10000000)) signed i whole k
+    → Adds rest whole k after r
+    → Adds (degreesText n) before at after r
+unfolding degreesText unitsText
+degrees n m rest before signed whole after at i k r is point sign units decimals = rw (← is, ← point) (adds-both sign (adds-both units decimals))
 
 pub plain-piece : (b n : ℕ) (word before after : List ℕ) (at r : ℕ) → (b ≡ 35 → ⊥) → (b ≡ 38 → ⊥) → (b ≡ 64 → ⊥) → Adds (b ∷ []) before at after r → Adds (piece b n word) before at after r
 unfolding piece
@@ -57,19 +68,7 @@ filled-more pattern ns word before between after at i k n m r t used number taki
 pub all-filled : (pattern ns word before after : List ℕ) (at i r : ℕ) → i ≤ length pattern → length pattern ≤ i → Adds (filledTo pattern ns word i) before at after r → Adds (filled pattern ns word) before at after r
 all-filled pattern ns word before after at i r most least adds = let all : length pattern ≡ i = omega arith in rw all adds
 
-pub other-kind : (k : ℕ) → (k ≡ 0 → ⊥) → (k ≡ 1 → ⊥) → (k ≡ 2 → ⊥) → ascii "unknown" ≡ kindName k
-unfolding kindName
-other-kind k a b c = rw (ne-eqb k 0 a, ne-eqb k 1 b, ne-eqb k 2 c)
-
-pub other-result : (r : ℕ) → (r ≡ 0 → ⊥) → (r ≡ 13 → ⊥) → (r ≡ 14 → ⊥) → (r ≡ 15 → ⊥) → ascii "refused" ≡ resultName r
-unfolding resultName
-other-result r a b c d = rw (ne-eqb r 0 a, ne-eqb r 14 c, ne-eqb r 13 b, ne-eqb r 15 d)
-
-pub other-command : (n : ℕ) → (n ≡ 16 → ⊥) → (n ≡ 21 → ⊥) → (n ≡ 22 → ⊥) → (n ≡ 5003 → ⊥) → ascii "command" ≡ commandName n
-unfolding commandName
-other-command n a b c d = rw (ne-eqb n 16 a, ne-eqb n 21 b, ne-eqb n 22 c, ne-eqb n 5003 d)
-
 -- a word that is a part of the names
-pub spelt : (pattern ns part all before after : List ℕ) (at r : ℕ) (w : Word) → all ≡ names → part ≡ take (w .len) (drop (w .from) all) → Adds (filled pattern ns part) before at after r → Adds (filled pattern ns (wordText w)) before at after r
+pub spelt : (w : Word) (part all before after : List ℕ) (at r : ℕ) → all ≡ names → part ≡ take (w .len) (drop (w .from) all) → Adds part before at after r → Adds (wordText w) before at after r
 unfolding wordText
-spelt pattern ns part all before after at r w is front adds = rw (← is, ← front) adds
+spelt w part all before after at r is front adds = rw (← is, ← front) adds

@@ -11,17 +11,19 @@ unfoldable pub magnitude : ℕ → ℕ
 magnitude n = let bits = n % 4294967296 in cond (ltb bits 2147483648) bits (4294967296 - bits)
 
 -- ten-millionths with seven decimals
-abbrev pub decimalAt : (n unit : ℕ) → ℕ
-decimalAt n unit = 48 + n / unit % 10
+abbrev pub decimals : ℕ → List ℕ
+decimals n =
+    46 ∷ (48 + n / 1000000 % 10) ∷ (48 + n / 100000 % 10) ∷ (48 + n / 10000 % 10) ∷ (48 + n / 1000 % 10) ∷ (48 + n / 100 % 10) ∷ (48 + n / 10 % 10) ∷ (48 + n % 10) ∷ []
 
 unfoldable pub unitsText : ℕ → List ℕ
-unitsText n =
-    decimal (n / 10000000)
-    ++ (46 ∷ decimalAt n 1000000 ∷ decimalAt n 100000 ∷ decimalAt n 10000 ∷ decimalAt n 1000 ∷ decimalAt n 100 ∷ decimalAt n 10 ∷ (48 + n % 10) ∷ [])
+unitsText n = decimal (n / 10000000) ++ decimals n
 
 -- degrees, from the 32 bits of a signed number of ten-millionths: a minus, then its magnitude
+unfoldable pub signText : ℕ → List ℕ
+signText n = cond (ltb (n % 4294967296) 2147483648) [] (45 ∷ [])
+
 unfoldable pub degreesText : ℕ → List ℕ
-degreesText n = cond (ltb (n % 4294967296) 2147483648) (unitsText (magnitude n)) (45 ∷ unitsText (magnitude n))
+degreesText n = signText n ++ unitsText (magnitude n)
 
 -- what a byte of the pattern stands for: `#` a number, `&` degrees, `@` a word, any other itself
 unfoldable pub piece : (byte n : ℕ) (word : List ℕ) → List ℕ

@@ -1,3 +1,2 @@
 -- Messages in words.
 pub mod Filled
-pub mod Names

@@ -1,34 +1,79 @@
--- `words::filling::put_filled` meets its contract: the word is its part of the names.
-use Rattle.words.proofs.Ways.{spelt}
+-- `words::filling::put_filled` meets its contract. The loop's invariant: the first i bytes of the pattern are filled.
+use Prim.Native.Nat.{_-_, _≤_}
+use mathlib.Core.Path.{_≡_, refl}
+use native.Mathlib.Omega.{arith}
+use lib.ListN.{length}
 use borrow.Author.Needs.{needs}
+use Rattle.text.specs.Added.{Adds}
+use Rattle.text.specs.Laws.{adds-nothing}
+use Rattle.words.specs.Filled.{taken, filledTo}
+use Rattle.names.specs.Names.{wordText}
+use Rattle.words.proofs.Ways.{filled-more, all-filled}
 use Rattle.words.proofs.filling.put_filled.Statement.{statement}
 use Rattle.words.proofs.filling.put_filled.Tie as tie
 
-names-requires : tie.Need-names-requires
-names-requires c κs = search needs
+abbrev Inv-loop : tie.InvT-loop
+Inv-loop out₀ at pattern list word end₀ i₀ k₀ out end i k = (i ≤ length pattern) × (k ≤ i) × (k ≡ taken pattern i) × Adds (filledTo pattern list (wordText word) i) out₀ at out end
 
-slice-aggregate-part : tie.Need-slice-aggregate-part
-slice-aggregate-part c = search needs
+abbrev μ-loop : tie.MeasureT-loop
+μ-loop out₀ at pattern list word end₀ i₀ k₀ out end i k = length pattern - i
 
-part-requires : tie.Need-part-requires
-part-requires c κs = search needs
+within-requires : tie.Need-within-requires Inv-loop μ-loop
+within-requires c κs = search needs
 
-put-spelt-requires : tie.Need-put-spelt-requires
-put-spelt-requires c κs = search needs
+loop-holds : tie.Need-loop-holds Inv-loop μ-loop
+unfolding taken filledTo
+loop-holds c = (omega arith, omega arith, refl, adds-nothing _ _ _ (c .within .ensures .0))
 
-same-length : tie.Need-same-length
-same-length c = search needs
+shared-slice-read-byte : tie.Need-shared-slice-read-byte Inv-loop μ-loop
+shared-slice-read-byte c = search needs
 
-returns : tie.Need-returns
-returns c = let p = c .before .before in let n = p .before .before .before .before in spelt _ _ _ _ _ _ _ _ (n .before .before .before .before .args .word) (n .names .ensures) (p .before .before .part .ensures) (p .put-spelt .ensures)
+number-at-requires : tie.Need-number-at-requires Inv-loop μ-loop
+number-at-requires c κs = search needs
+
+put-piece-requires : tie.Need-put-piece-requires Inv-loop μ-loop
+put-piece-requires c κs = search needs
+
+takes-requires : tie.Need-takes-requires Inv-loop μ-loop
+takes-requires c κs = search needs
+
+add-k : tie.Need-add-k Inv-loop μ-loop
+add-k c = omega (arith, c .takes .ensures .1)
+
+add-i : tie.Need-add-i Inv-loop μ-loop
+add-i c = omega arith
+
+loop-less : tie.Need-loop-less Inv-loop μ-loop
+loop-less c = omega arith
+
+loop-again : tie.Need-loop-again Inv-loop μ-loop
+loop-again c =
+    let p = c .before .before .before in
+    let l = p .before .before .before .before .before in
+    let more = filled-more _ _ _ _ _ _ _ (l .loop .i) _ _ _ _ _ (l .loop .inv .2) (p .before .number-at .ensures) (c .takes .ensures .0) (l .loop .inv .3) (p .put-piece .ensures) in
+    (omega arith, omega (arith, c .takes .ensures .1), more .0, more .1)
+
+same-length : tie.Need-same-length Inv-loop μ-loop
+same-length c = c .before .loop .inv .3 .room
+
+returns : tie.Need-returns Inv-loop μ-loop
+returns c = let l = c .before in all-filled _ _ _ _ _ _ (l .loop .i) _ (omega arith) (omega arith) (l .loop .inv .3)
 
 pub put-filled-spec : {M : Type 1} → statement M
 put-filled-spec =
     tie.close
     (tie.spec
-    names-requires
-    slice-aggregate-part
-    part-requires
-    put-spelt-requires
+    Inv-loop
+    μ-loop
+    within-requires
+    loop-holds
+    shared-slice-read-byte
+    number-at-requires
+    put-piece-requires
+    takes-requires
+    add-k
+    add-i
+    loop-less
+    loop-again
     same-length
     returns)

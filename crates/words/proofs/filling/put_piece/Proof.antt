@@ -11,8 +11,8 @@ put-number-requires c κs = search needs
 put-degrees-requires : tie.Need-put-degrees-requires
 put-degrees-requires c κs = search needs
 
-put-requires : tie.Need-put-requires
-put-requires c κs = search needs
+put-word-requires : tie.Need-put-word-requires
+put-word-requires c κs = search needs
 
 put-byte-requires : tie.Need-put-byte-requires
 put-byte-requires c κs = search needs
@@ -22,27 +22,30 @@ same-length c = search needs
 
 returns : tie.Need-returns
 unfolding piece
-returns c = rw (c .before .before .before .before .match .keys1) (c .before .before .put-number .ensures)
+returns c = let p = c .before .before in rw (p .before .before .match .keys1) (p .put-number .ensures)
 
 same-length-2 : tie.Need-same-length-2
 same-length-2 c = search needs
 
 returns-2 : tie.Need-returns-2
 unfolding piece
-returns-2 c = rw (c .before .before .before .before .match .keys2) (c .before .before .put-degrees .ensures)
+returns-2 c = let p = c .before .before in rw (p .before .before .match .keys2) (p .put-degrees .ensures)
 
 same-length-3 : tie.Need-same-length-3
 same-length-3 c = search needs
 
 returns-3 : tie.Need-returns-3
 unfolding piece
-returns-3 c = rw (c .before .before .before .before .match .keys3) (c .before .before .put .ensures)
+returns-3 c = let p = c .before .before in rw (p .before .before .match .keys3) (p .put-word .ensures)
 
 same-length-4 : tie.Need-same-length-4
 same-length-4 c = search needs
 
 returns-4 : tie.Need-returns-4
-returns-4 c = let rest = c .before .before .before .before .match .rest in plain-piece _ _ _ _ _ _ _ (rest .0 .0 .1) (rest .0 .1) (rest .1) (c .before .before .put-byte .ensures)
+returns-4 c =
+    let p = c .before .before in
+    let rest = p .before .before .match .rest in
+    plain-piece _ _ _ _ _ _ _ (rest .0 .0 .1) (rest .0 .1) (rest .1) (p .put-byte .ensures)
 
 pub put-piece-spec : {M : Type 1} → statement M
 put-piece-spec =
@@ -50,7 +53,7 @@ put-piece-spec =
     (tie.spec
     put-number-requires
     put-degrees-requires
-    put-requires
+    put-word-requires
     put-byte-requires
     same-length
     returns

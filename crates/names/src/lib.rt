@@ -1,8 +1,7 @@
 // The names of kinds, results and commands, as parts of one text.
 ghost use mathlib.Core.Path.{_≡_};
 ghost use mathlib.Core.List.{[]};
-ghost use lib.ListN.{take, drop};
-ghost use Rattle.words.specs.Names.{names as Names·names, wordText, kindName, resultName, commandName};
+ghost use Rattle.names.specs.Names.{names as Names·names, wordText, kindName, resultName, commandName};
 
 const LETTERS: usize = 116;
 
@@ -22,27 +21,21 @@ pub struct Word {
     pub len: usize,
 }
 
-fn part(from: usize, len: usize) -> Word
-    ensures { λ r. ⌜ wordText r ≡ take len (drop from Names·names) ⌝ }
-{
-    Word { from, len }
-}
-
 // No word at all.
 pub fn no_word() -> Word
     ensures { λ r. ⌜ wordText r ≡ [] ⌝ }
 {
-    part(0, 0)
+    Word { from: 0, len: 0 }
 }
 
 pub fn kind_word(kind: u8) -> Word
     ensures { λ r. ⌜ wordText r ≡ kindName kind ⌝ }
 {
     match kind {
-        limits::FLIGHT => part(0, 6),
-        limits::FENCE => part(6, 5),
-        limits::RALLY => part(11, 5),
-        _ => part(16, 7),
+        limits::FLIGHT => Word { from: 0, len: 6 },
+        limits::FENCE => Word { from: 6, len: 5 },
+        limits::RALLY => Word { from: 11, len: 5 },
+        _ => Word { from: 16, len: 7 },
     }
 }
 
@@ -50,11 +43,11 @@ pub fn result_word(result: u8) -> Word
     ensures { λ r. ⌜ wordText r ≡ resultName result ⌝ }
 {
     match result {
-        limits::ACCEPTED => part(23, 8),
-        limits::INVALID_SEQUENCE => part(31, 16),
-        limits::DENIED => part(47, 6),
-        limits::CANCELLED => part(53, 9),
-        _ => part(62, 7),
+        limits::ACCEPTED => Word { from: 23, len: 8 },
+        limits::INVALID_SEQUENCE => Word { from: 31, len: 16 },
+        limits::DENIED => Word { from: 47, len: 6 },
+        limits::CANCELLED => Word { from: 53, len: 9 },
+        _ => Word { from: 62, len: 7 },
     }
 }
 
@@ -62,10 +55,10 @@ pub fn command_word(command: u16) -> Word
     ensures { λ r. ⌜ wordText r ≡ commandName command ⌝ }
 {
     match command {
-        16 => part(69, 8),
-        21 => part(77, 4),
-        22 => part(81, 7),
-        5003 => part(88, 21),
-        _ => part(109, 7),
+        16 => Word { from: 69, len: 8 },
+        21 => Word { from: 77, len: 4 },
+        22 => Word { from: 81, len: 7 },
+        5003 => Word { from: 88, len: 21 },
+        _ => Word { from: 109, len: 7 },
     }
 }

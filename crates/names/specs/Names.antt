@@ -6,7 +6,7 @@ use lib.Dec.{eqb}
 use lib.ListN.{take, drop}
 use Rattle.rules.specs.Limits.{flight, fence, rally, accepted, invalidSequence, denied, cancelled}
 use Rattle.text.specs.Words.{ascii}
-use Rattle.words.specs.declared.naming.Word.{Word}
+use Rattle.names.specs.declared.Word.{Word}
 
 -- all of them, one after another
 abbrev pub names : List ℕ

@@ -1,0 +1,2 @@
+-- The names of kinds, results and commands.
+pub mod Names
