@@ -38,22 +38,33 @@ module _ (u : Upload) (field v : ℕ) where
     unfolding pokedUpload
     runs-on r′ e is = rw (runs, e, ← is)
 
+pub plan-set
+    : (p : Plan) (own f v : ℕ) → own ≡ f
+    → (len : ℕ) (half : Bool) (number : ℕ) (upload : Upload)
+    → len ≡ cond (eqb own 0) (v % 65536) (p .len)
+    → half ≡ cond (eqb own 2) (eqb (v % 2) 1) (p .half)
+    → number ≡ cond (eqb own 1) v (p .number)
+    → upload ≡ pokedUpload (p .upload) own v
+    → record { len = len; half = half; number = number; upload = upload } ≡ pokedPlan p f v
+unfolding pokedPlan
+plan-set p own f v is len half number upload ll hh nn uu = rw (← is) (λ i. record { len = ll i; half = hh i; number = nn i; upload = uu i })
+
 pub below : (a : Bool) (i n : ℕ) → (a && ltb i n) ≡ true → i < n
 below true i n e = ltb-true i n e
 below false i n e = absurd (true≢false (sym e))
 
-module _ (st : State) (field index v f g h : ℕ) (ff : f ≡ fieldFor 0 index field) (gg : g ≡ fieldFor 1 index field) (hh : h ≡ fieldFor 2 index field) where
+module _ (st : State) (field index v : ℕ) where
   pub state-set
       : (p q r : Plan) (current : ℕ) (begun : Bool) (counts : List ℕ)
-      → p ≡ pokedPlan (planOf st 0) f v
-      → q ≡ pokedPlan (planOf st 1) g v
-      → r ≡ pokedPlan (planOf st 2) h v
+      → p ≡ pokedPlan (planOf st 0) (fieldFor 0 index field) v
+      → q ≡ pokedPlan (planOf st 1) (fieldFor 1 index field) v
+      → r ≡ pokedPlan (planOf st 2) (fieldFor 2 index field) v
       → current ≡ cond (eqb field 10) (v % 65536) (st .current)
       → begun ≡ cond (eqb field 11) (not (eqb v 0)) (st .begun)
       → counts ≡ pokedCounts (st .counts) field index v
       → record { plans = p ∷ q ∷ r ∷ []; current = current; begun = begun; counts = counts } ≡ pokedState st field index v
   unfolding pokedState
-  state-set p q r current begun counts pp qq rr cc′ bb nn = rw (pp, qq, rr, ff, gg, hh, cc′, bb, nn)
+  state-set p q r current begun counts pp qq rr cc′ bb nn = rw (pp, qq, rr, cc′, bb, nn)
 
 module _ (counts : List ℕ) (field index v : ℕ) where
   pub count-set : (eqb field 12 && ltb index maxJumps) ≡ true → set counts index (v % 65536) ≡ pokedCounts counts field index v

@@ -7,26 +7,17 @@ use Rattle.host.proofs.poked.Tie as tie
 array-copy-out-poked-plan : tie.Need-array-copy-out-poked-plan
 array-copy-out-poked-plan c = search needs
 
-field-for-requires : tie.Need-field-for-requires
-field-for-requires c κs = search needs
-
 poked-plan-requires : tie.Need-poked-plan-requires
 poked-plan-requires c κs = search needs
 
 array-copy-out-poked-plan-2 : tie.Need-array-copy-out-poked-plan-2
 array-copy-out-poked-plan-2 c = search needs
 
-field-for-requires-2 : tie.Need-field-for-requires-2
-field-for-requires-2 c κs = search needs
-
 poked-plan-requires-2 : tie.Need-poked-plan-requires-2
 poked-plan-requires-2 c κs = search needs
 
 array-copy-out-poked-plan-3 : tie.Need-array-copy-out-poked-plan-3
 array-copy-out-poked-plan-3 c = search needs
-
-field-for-requires-3 : tie.Need-field-for-requires-3
-field-for-requires-3 c κs = search needs
 
 poked-plan-requires-3 : tie.Need-poked-plan-requires-3
 poked-plan-requires-3 c κs = search needs
@@ -48,13 +39,10 @@ poked-spec =
     tie.close
     (tie.spec
     array-copy-out-poked-plan
-    field-for-requires
     poked-plan-requires
     array-copy-out-poked-plan-2
-    field-for-requires-2
     poked-plan-requires-2
     array-copy-out-poked-plan-3
-    field-for-requires-3
     poked-plan-requires-3
     set16-requires
     set-flag-requires
