@@ -9,8 +9,8 @@ use Rattle.command_words.proofs.answer_of.Tie as tie
 enum-known-command : tie.Need-enum-known-command
 enum-known-command c = search needs
 
-cast-t25 : tie.Need-cast-t25
-cast-t25 c = search needs
+cast-t16 : tie.Need-cast-t16
+cast-t16 c = search needs
 
 with-numbers-requires : tie.Need-with-numbers-requires
 with-numbers-requires c κs = search needs
@@ -42,14 +42,14 @@ with-value-requires-4 c κs = search needs
 enum-known-command-6 : tie.Need-enum-known-command-6
 enum-known-command-6 c = search needs
 
-cast-t37 : tie.Need-cast-t37
-cast-t37 c = search needs
+cast-t18 : tie.Need-cast-t18
+cast-t18 c = search needs
 
-cast-t38 : tie.Need-cast-t38
-cast-t38 c = search needs
+cast-t19 : tie.Need-cast-t19
+cast-t19 c = search needs
 
-cast-t39 : tie.Need-cast-t39
-cast-t39 c = search needs
+cast-t20 : tie.Need-cast-t20
+cast-t20 c = search needs
 
 with-numbers-requires-2 : tie.Need-with-numbers-requires-2
 with-numbers-requires-2 c κs = search needs
@@ -103,7 +103,7 @@ answer-of-spec =
     tie.close
     (tie.spec
     enum-known-command
-    cast-t25
+    cast-t16
     with-numbers-requires
     enum-known-command-2
     with-value-requires
@@ -114,9 +114,9 @@ answer-of-spec =
     enum-known-command-5
     with-value-requires-4
     enum-known-command-6
-    cast-t37
-    cast-t38
-    cast-t39
+    cast-t18
+    cast-t19
+    cast-t20
     with-numbers-requires-2
     enum-told
     with-numbers-requires-3
