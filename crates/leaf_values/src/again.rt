@@ -21,20 +21,14 @@ fn statustext() -> wire::Statustext {
     }
 }
 
-fn longer(id: u32, p: &[u8], to: &mut [u8]) -> usize {
-    match id {
-        wire::CURRENT_ID => reply::write_current(current(), to),
-        wire::STATUSTEXT_ID => reply::write_statustext(statustext(), to),
-        _ => reply::write_item_int(wire::read_item_int(p), to),
-    }
-}
-
 // How many bytes are written of a message.
 pub fn again(id: u32, p: &[u8], to: &mut [u8]) -> usize {
     match id {
+        wire::CURRENT_ID => reply::write_current(current(), to),
         wire::COUNT_ID => reply::write_count(wire::read_count(p), to),
         wire::ACK_ID => reply::write_ack(wire::read_ack(p), to),
         wire::REQUEST_INT_ID => reply::write_request_int(wire::read_request_int(p), to),
-        _ => longer(id, p, to),
+        wire::STATUSTEXT_ID => reply::write_statustext(statustext(), to),
+        _ => reply::write_item_int(wire::read_item_int(p), to),
     }
 }

@@ -10,7 +10,11 @@ pub const LENGTHS: usize = 11;
 pub const WHOLE: usize = 18;
 
 // The words that lines begin with, each at the place that its constant says.
-pub const WORDS: [u8; 23] = *b"readwrittenlengthswhole";
+const WORDS: [u8; 23] = *b"readwrittenlengthswhole";
+
+pub fn words() -> [u8; 23] {
+    WORDS
+}
 
 // A line's word, and how many letters and numbers it has; a message's id or a float's pattern; the payload as a part of the payloads, or the number meant;
 // and how many bytes are lent for writing.

@@ -28,7 +28,7 @@ fn numbers(case: Case, to: &mut [u8]) -> [u64; 16] {
 }
 
 fn put_numbers(out: &mut [u8], at: usize, from: usize, letters: usize, list: &[u64]) -> usize {
-    let words = cases::WORDS;
+    let words = cases::words();
     let at = text::put(out, at, text::part(&words, from, letters));
     text::put_numbers(out, at, list)
 }
