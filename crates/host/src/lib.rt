@@ -2,7 +2,7 @@
 ghost use Prim.Native.Nat.{_%_};
 ghost use mathlib.Core.Path.{_≡_};
 ghost use mathlib.Core.Bool.{cond};
-ghost use Rattle.host.specs.Pokes.{fieldFor, pokedRun, pokedUpload, pokedPlan, pokedCounts, pokedState, written};
+ghost use Rattle.host.specs.Pokes.{fieldFor, pokedRun, pokedUpload, pokedPlan, pokedPlans, pokedCounts, pokedState, written};
 use limits::JUMP_COUNTS;
 use plan::Plan;
 use plan::Run;
@@ -98,6 +98,15 @@ fn poked_plan(plan: Plan, kind: u8, index: u8, field: u8, value: u32) -> Plan
     }
 }
 
+fn poked_plans(plans: [Plan; 3], field: u8, index: u8, value: u32) -> [Plan; 3]
+    ensures { λ r. ⌜ r ≡ pokedPlans plans field index value ⌝ }
+{
+    let flight = poked_plan(plans[0], 0, index, field, value);
+    let fence = poked_plan(plans[1], 1, index, field, value);
+    let rally = poked_plan(plans[2], 2, index, field, value);
+    [flight, fence, rally]
+}
+
 fn poked_counts(counts: [u16; JUMP_COUNTS], field: u8, index: u8, value: u32) -> [u16; JUMP_COUNTS]
     ensures { λ r. ⌜ r ≡ pokedCounts counts field index value ⌝ }
 {
@@ -115,12 +124,9 @@ pub fn poked(state: State, field: u8, index: u8, value: u32) -> State
     ensures { λ r. ⌜ r ≡ pokedState state field index value ⌝ }
 {
     let plans = state.plans;
-    let flight = poked_plan(plans[0], 0, index, field, value);
-    let fence = poked_plan(plans[1], 1, index, field, value);
-    let rally = poked_plan(plans[2], 2, index, field, value);
     let counts = state.counts;
     State {
-        plans: [flight, fence, rally],
+        plans: poked_plans(plans, field, index, value),
         current: set16(field == 10, value, state.current),
         begun: set_flag(field == 11, value != 0, state.begun),
         counts: poked_counts(counts, field, index, value),
