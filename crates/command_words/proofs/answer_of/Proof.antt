@@ -68,35 +68,35 @@ with-numbers-requires-4 c κs = search needs
 
 returns : tie.Need-returns
 unfolding commandText each
-returns c = search (is-answer, needs)
+returns c = is-answer _ _ _ (c .before .before .command .given .1) (c .with-numbers .ensures)
 
 returns-2 : tie.Need-returns-2
 unfolding commandText each
-returns-2 c = search (is-answer, needs)
+returns-2 c = is-answer _ _ _ (c .before .before .command2 .given .1) (c .with-value .ensures)
 
 returns-3 : tie.Need-returns-3
 unfolding commandText each
-returns-3 c = search (is-answer, needs)
+returns-3 c = is-answer _ _ _ (c .before .before .command3 .given .1) (c .with-value2 .ensures)
 
 returns-4 : tie.Need-returns-4
 unfolding commandText each
-returns-4 c = search (is-answer, needs)
+returns-4 c = is-answer _ _ _ (c .before .before .command4 .given .1) (c .with-value3 .ensures)
 
 returns-5 : tie.Need-returns-5
 unfolding commandText each
-returns-5 c = search (is-answer, needs)
+returns-5 c = is-answer _ _ _ (c .before .before .command5 .given .1) (c .with-value4 .ensures)
 
 returns-6 : tie.Need-returns-6
 unfolding commandText each
-returns-6 c = search (is-answer, needs)
+returns-6 c = is-answer _ _ _ (c .before .before .command6 .given .1) (c .with-numbers2 .ensures)
 
 returns-7 : tie.Need-returns-7
 unfolding commandText each
-returns-7 c = search (is-answer, needs)
+returns-7 c = is-answer _ _ _ (c .before .enum-told .given .1) (c .with-numbers3 .ensures)
 
 returns-8 : tie.Need-returns-8
 unfolding commandText each
-returns-8 c = search (is-answer, needs)
+returns-8 c = is-answer _ _ _ (c .before .enum-told2 .given .1) (c .with-numbers4 .ensures)
 
 pub answer-of-spec : {M : Type 1} → statement M
 answer-of-spec =

@@ -1,5 +1,6 @@
 -- `lines::put_stop` meets its contract, for each case.
 use Rattle.lines.proofs.Ways.{as-next, no-stop}
+use mathlib.Core.Path.{refl}
 use Rattle.lines.specs.Lines.{stopText}
 use borrow.Author.Needs.{needs}
 use Rattle.lines.proofs.put_stop.Statement.{statement}
@@ -43,28 +44,28 @@ same-length c = search needs
 
 returns : tie.Need-returns
 unfolding stopText
-returns c = search (as-next, needs)
+returns c = as-next _ _ _ _ _ _ (c .before .before .before .before .before .enum-told .given .1) (c .before .before .put .ensures)
 
 same-length-2 : tie.Need-same-length-2
 same-length-2 c = search needs
 
 returns-2 : tie.Need-returns-2
 unfolding stopText
-returns-2 c = search (as-next, needs)
+returns-2 c = as-next _ _ _ _ _ _ (c .before .before .before .before .before .before .next .given .1) (c .before .before .put-row .ensures)
 
 same-length-3 : tie.Need-same-length-3
 same-length-3 c = search needs
 
 returns-3 : tie.Need-returns-3
 unfolding stopText
-returns-3 c = search (no-stop, needs)
+returns-3 c = no-stop _ _ _ _ _ (c .before .before .enum-told2 .given .1) refl (c .within .ensures .0)
 
 same-length-4 : tie.Need-same-length-4
 same-length-4 c = search needs
 
 returns-4 : tie.Need-returns-4
 unfolding stopText
-returns-4 c = search (no-stop, needs)
+returns-4 c = no-stop _ _ _ _ _ (c .before .before .enum-told3 .given .1) refl (c .within2 .ensures .0)
 
 pub put-stop-spec : {M : Type 1} → statement M
 put-stop-spec =
