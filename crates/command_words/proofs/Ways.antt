@@ -2,17 +2,17 @@
 use Prim.Native.Nat.{ℕ, _*_}
 use mathlib.Core.Path.{_≡_, refl, sym, subst, _∙_}
 use mathlib.Core.Bool.{Bool, true, false, true≢false, not, Bool·beq}
-use mathlib.Core.List.{List, [], _∷_}
+use mathlib.Core.List.{List, [], _∷_, append-nil}
 use lib.Dec.{T}
 use lib.Ieee.{Float, nan, inf, fin, up, down, eq, isNan, binary32, toBits}
-use lib.ListN.{take}
+use lib.ListN.{take, drop}
 use borrow.Author.Tests.{eq-eqb}
 use Rattle.text.specs.Added.{Adds}
 use Rattle.text.specs.Digits.{spaced, hex}
 use Rattle.text.specs.Laws.{adds-both, adds-after}
 use Rattle.plan_search.specs.declared.Command.{Command}
 use Rattle.command_words.specs.declared.Answer.{Answer}
-use Rattle.command_words.specs.Commands.{highFirst, valueText, commandText, answerText}
+use Rattle.command_words.specs.Commands.{highFirst, valueText, commandText, words, wordOf, answerText}
 
 -- values
 
@@ -47,16 +47,22 @@ value-text x n before between after at k r e space digits = rw (← e) (adds-aft
 pub is-answer : (command is : Command) (t : Answer) → command ≡ is → answerText t ≡ commandText is → answerText t ≡ commandText command
 is-answer command is t e same = rw e same
 
-module _ (t : Answer) (w ns before between third after : List ℕ) (at k m r : ℕ) (front : w ≡ take (t .letters) (t .word)) (first : ns ≡ take (t .numbers) (t .list))
-    (word : Adds w before at between k) (list : Adds (spaced ns) between k third m)
-  where
-    pub answer-value : t .valued ≡ true → Adds (valueText (t .value)) third m after r → Adds (answerText t) before at after r
-    unfolding answerText
-    answer-value e value = rw (e, ← front, ← first) (adds-both word (adds-both list value))
+pub word-put
+    : (all w before after : List ℕ) (from letters at r : ℕ)
+    → all ≡ words
+    → w ≡ take letters (drop from all)
+    → Adds w before at after r
+    → Adds (wordOf from letters) before at after r
+word-put all w before after from letters at r is part adds = rw (← is, ← part) adds
 
-    pub answer-none : t .valued ≡ false → Adds [] third m after r → Adds (answerText t) before at after r
-    unfolding answerText
-    answer-none e none = rw (e, ← front, ← first) (adds-both word (adds-both list none))
+module _ (t : Answer) (ns before between after : List ℕ) (at k m : ℕ) (first : ns ≡ take (t .numbers) (t .list)) (word : Adds (wordOf (t .from) (t .letters)) before at between k) where
+  pub answer-value : (third : List ℕ) (r : ℕ) → Adds (spaced ns) between k third m → t .valued ≡ true → Adds (valueText (t .value)) third m after r → Adds (answerText t) before at after r
+  unfolding answerText
+  answer-value third r list e value = rw (e, ← first) (adds-both word (adds-both list value))
+
+  pub answer-none : Adds (spaced ns) between k after m → t .valued ≡ false → Adds (answerText t) before at after m
+  unfolding answerText
+  answer-none list e = rw (e, ← first, append-nil (spaced ns)) (adds-both word list)
 
 pub answers : (command : Command) (t : Answer) (before after : List ℕ) (at r : ℕ) → answerText t ≡ commandText command → Adds (answerText t) before at after r → Adds (commandText command) before at after r
 answers command t before after at r e adds = rw (← e) adds

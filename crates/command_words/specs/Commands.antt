@@ -3,7 +3,7 @@ use Prim.Native.Nat.{ℕ, _/_, _%_}
 use mathlib.Core.Bool.{cond}
 use mathlib.Core.List.{List, [], _∷_, _++_}
 use lib.Ieee.{Float, binary32, toBits}
-use lib.ListN.{take}
+use lib.ListN.{take, drop}
 use Rattle.text.specs.Words.{ascii}
 use Rattle.text.specs.Digits.{spaced, hex}
 use Rattle.command_words.specs.declared.Answer.{Answer}
@@ -28,6 +28,12 @@ commandText (Servo n channel pulse) = ascii " servo" ++ spaced (n ∷ channel �
 commandText Finished = ascii " finished"
 commandText Stuck = ascii " stuck"
 
--- the same as the code holds it
+-- the same as the code holds it, with a part of all words
+abbrev pub words : List ℕ
+words = ascii " fly wait near turn speed servo finished stuck"
+
+abbrev pub wordOf : (from letters : ℕ) → List ℕ
+wordOf from letters = take letters (drop from words)
+
 unfoldable pub answerText : Answer → List ℕ
-answerText t = take (t .letters) (t .word) ++ (spaced (take (t .numbers) (t .list)) ++ cond (t .valued) (valueText (t .value)) [])
+answerText t = wordOf (t .from) (t .letters) ++ (spaced (take (t .numbers) (t .list)) ++ cond (t .valued) (valueText (t .value)) [])

@@ -5,7 +5,7 @@ ghost use lib.Ieee.{binary32, toBits};
 ghost use lib.ListN.{take};
 ghost use Rattle.text.specs.Added.{Adds};
 ghost use Rattle.text.specs.Digits.{spaced};
-ghost use Rattle.command_words.specs.Commands.{valueText, answerText, commandText};
+ghost use Rattle.command_words.specs.Commands.{valueText, words as Commands·words, wordOf, answerText, commandText};
 use plan_search::Command;
 
 // The bit pattern of a value; every NaN is shown as the quiet one.
@@ -33,9 +33,28 @@ fn put_value(out: &mut [u8], at: usize, x: f32) -> usize
     text::put_hex(out, end, &bytes)
 }
 
-// What is told of a command: the first letters of a word, the first numbers of a list, and a value or none.
+const LETTERS: usize = 46;
+
+const WORDS: [u8; LETTERS] = *b" fly wait near turn speed servo finished stuck";
+
+// The words of commands, one after another, each after a space.
+fn words() -> [u8; LETTERS]
+    ensures { λ r. ⌜ r ≡ Commands·words ⌝ }
+{
+    WORDS
+}
+
+// A part of the words.
+fn put_word(out: &mut [u8], at: usize, from: usize, letters: usize) -> usize
+    ensures { λ r. ⌜ Adds (wordOf from letters) (now (out .entry)) at (now (out .exit)) r ⌝ }
+{
+    let words = words();
+    text::put(out, at, text::part(&words, from, letters))
+}
+
+// What is told of a command: a part of the words, the first numbers of a list, and a value or none.
 struct Answer {
-    word: [u8; 9],
+    from: usize,
     letters: usize,
     list: [u64; 3],
     numbers: usize,
@@ -43,11 +62,11 @@ struct Answer {
     value: f32,
 }
 
-fn with_value(word: [u8; 9], letters: usize, n: u16, value: f32) -> Answer
-    ensures { λ r. ⌜ answerText r ≡ take letters word ++ (spaced (n ∷ []) ++ valueText value) ⌝ }
+fn with_value(from: usize, letters: usize, n: u16, value: f32) -> Answer
+    ensures { λ r. ⌜ answerText r ≡ wordOf from letters ++ (spaced (n ∷ []) ++ valueText value) ⌝ }
 {
     Answer {
-        word,
+        from,
         letters,
         list: [n as u64, 0, 0],
         numbers: 1,
@@ -56,11 +75,11 @@ fn with_value(word: [u8; 9], letters: usize, n: u16, value: f32) -> Answer
     }
 }
 
-fn with_numbers(word: [u8; 9], letters: usize, list: [u64; 3], numbers: usize) -> Answer
-    ensures { λ r. ⌜ answerText r ≡ take letters word ++ spaced (take numbers list) ⌝ }
+fn with_numbers(from: usize, letters: usize, list: [u64; 3], numbers: usize) -> Answer
+    ensures { λ r. ⌜ answerText r ≡ wordOf from letters ++ spaced (take numbers list) ⌝ }
 {
     Answer {
-        word,
+        from,
         letters,
         list,
         numbers,
@@ -73,35 +92,30 @@ fn answer_of(command: Command) -> Answer
     ensures { λ r. ⌜ answerText r ≡ commandText command ⌝ }
 {
     match command {
-        Command::Fly(n) => with_numbers(*b" fly     ", 4, [n as u64, 0, 0], 1),
-        Command::Wait(n, x) => with_value(*b" wait    ", 5, n, x),
-        Command::Near(n, x) => with_value(*b" near    ", 5, n, x),
-        Command::Turn(n, x) => with_value(*b" turn    ", 5, n, x),
-        Command::Speed(n, x) => with_value(*b" speed   ", 6, n, x),
+        Command::Fly(n) => with_numbers(0, 4, [n as u64, 0, 0], 1),
+        Command::Wait(n, x) => with_value(4, 5, n, x),
+        Command::Near(n, x) => with_value(9, 5, n, x),
+        Command::Turn(n, x) => with_value(14, 5, n, x),
+        Command::Speed(n, x) => with_value(19, 6, n, x),
         Command::Servo(n, channel, pulse) => {
-            with_numbers(
-                *b" servo   ",
-                6,
-                [n as u64, channel as u64, pulse as u64],
-                3,
-            )
+            let list = [n as u64, channel as u64, pulse as u64];
+            with_numbers(25, 6, list, 3)
         }
-        Command::Finished => with_numbers(*b" finished", 9, [0; 3], 0),
-        Command::Stuck => with_numbers(*b" stuck   ", 6, [0; 3], 0),
+        Command::Finished => with_numbers(31, 9, [0; 3], 0),
+        Command::Stuck => with_numbers(40, 6, [0; 3], 0),
     }
 }
 
 fn put_answer(out: &mut [u8], at: usize, t: Answer) -> usize
     ensures { λ r. ⌜ Adds (answerText t) (now (out .entry)) at (now (out .exit)) r ⌝ }
 {
-    let word = t.word;
-    let end = text::put(out, at, text::part(&word, 0, t.letters));
+    let end = put_word(out, at, t.from, t.letters);
     let list = t.list;
     let end = text::put_numbers(out, end, text::first(&list, t.numbers));
     if t.valued {
         return put_value(out, end, t.value);
     }
-    text::put(out, end, b"")
+    end
 }
 
 pub fn put_command(out: &mut [u8], at: usize, command: Command) -> usize

@@ -5,7 +5,7 @@ use mathlib.Core.Bool.{Bool, true, false, true≢false, not, _&&_, cond}
 use mathlib.Core.List.{List, [], _∷_, _++_, append-nil}
 use native.Mathlib.Omega.{arith}
 use lib.Dec.{eqb, ltb}
-use lib.ListN.{length, set, take, drop, drop-of-length-le, length-drop}
+use lib.ListN.{length, getD, set, take, drop, drop-of-length-le, length-drop}
 use lib.Seq.{take-all, take-length, drop-drop}
 use borrow.Rule.Slice.PartMut.{putMid}
 use borrow.Author.Tests.{ltb-true, le-leb, lt-leb}
@@ -16,8 +16,8 @@ use Rattle.plan.specs.declared.Run.{Run}
 use Rattle.plan.specs.declared.State.{State}
 use Rattle.plan.specs.declared.Upload.{Upload}
 use Rattle.plan.specs.declared.Upload.the-variants.{Idle, Running}
-use Rattle.plan.specs.View.{planOf}
-use Rattle.host.specs.Pokes.{fieldFor, pokedRun, pokedUpload, pokedPlan, pokedCounts, pokedState, written}
+use Rattle.plan.specs.View.{emptyPlan}
+use Rattle.host.specs.Pokes.{fieldFor, pokedRun, pokedUpload, pokedPlan, pokedPlans, pokedCounts, pokedState, written}
 
 module _ (u : Upload) (field v : ℕ) where
   module _ (idle : u ≡ Idle) where
@@ -38,22 +38,39 @@ module _ (u : Upload) (field v : ℕ) where
     unfolding pokedUpload
     runs-on r′ e is = rw (runs, e, ← is)
 
+pub plan-set
+    : (p : Plan) (own f v : ℕ) → own ≡ f
+    → (len : ℕ) (half : Bool) (number : ℕ) (upload : Upload)
+    → len ≡ cond (eqb own 0) (v % 65536) (p .len)
+    → half ≡ cond (eqb own 2) (eqb (v % 2) 1) (p .half)
+    → number ≡ cond (eqb own 1) v (p .number)
+    → upload ≡ pokedUpload (p .upload) own v
+    → record { len = len; half = half; number = number; upload = upload } ≡ pokedPlan p f v
+unfolding pokedPlan
+plan-set p own f v is len half number upload ll hh nn uu = rw (← is) (λ i. record { len = ll i; half = hh i; number = nn i; upload = uu i })
+
 pub below : (a : Bool) (i n : ℕ) → (a && ltb i n) ≡ true → i < n
 below true i n e = ltb-true i n e
 below false i n e = absurd (true≢false (sym e))
 
-module _ (st : State) (field index v f g h : ℕ) (ff : f ≡ fieldFor 0 index field) (gg : g ≡ fieldFor 1 index field) (hh : h ≡ fieldFor 2 index field) where
-  pub state-set
-      : (p q r : Plan) (current : ℕ) (begun : Bool) (counts : List ℕ)
-      → p ≡ pokedPlan (planOf st 0) f v
-      → q ≡ pokedPlan (planOf st 1) g v
-      → r ≡ pokedPlan (planOf st 2) h v
-      → current ≡ cond (eqb field 10) (v % 65536) (st .current)
-      → begun ≡ cond (eqb field 11) (not (eqb v 0)) (st .begun)
-      → counts ≡ pokedCounts (st .counts) field index v
-      → record { plans = p ∷ q ∷ r ∷ []; current = current; begun = begun; counts = counts } ≡ pokedState st field index v
-  unfolding pokedState
-  state-set p q r current begun counts pp qq rr cc′ bb nn = rw (pp, qq, rr, ff, gg, hh, cc′, bb, nn)
+pub plans-set
+    : (plans : List Plan) (field index v : ℕ) (p q r : Plan)
+    → p ≡ pokedPlan (getD plans 0 emptyPlan) (fieldFor 0 index field) v
+    → q ≡ pokedPlan (getD plans 1 emptyPlan) (fieldFor 1 index field) v
+    → r ≡ pokedPlan (getD plans 2 emptyPlan) (fieldFor 2 index field) v
+    → p ∷ q ∷ r ∷ [] ≡ pokedPlans plans field index v
+unfolding pokedPlans
+plans-set plans field index v p q r pp qq rr = λ i. pp i ∷ qq i ∷ rr i ∷ []
+
+pub state-set
+    : (st : State) (field index v : ℕ) (plans : List Plan) (current : ℕ) (begun : Bool) (counts : List ℕ)
+    → plans ≡ pokedPlans (st .plans) field index v
+    → current ≡ cond (eqb field 10) (v % 65536) (st .current)
+    → begun ≡ cond (eqb field 11) (not (eqb v 0)) (st .begun)
+    → counts ≡ pokedCounts (st .counts) field index v
+    → record { plans = plans; current = current; begun = begun; counts = counts } ≡ pokedState st field index v
+unfolding pokedState
+state-set st field index v plans current begun counts pp cc′ bb nn = λ i. record { plans = pp i; current = cc′ i; begun = bb i; counts = nn i }
 
 module _ (counts : List ℕ) (field index v : ℕ) where
   pub count-set : (eqb field 12 && ltb index maxJumps) ≡ true → set counts index (v % 65536) ≡ pokedCounts counts field index v

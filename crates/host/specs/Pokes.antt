@@ -4,7 +4,7 @@ use Prim.Native.Nat.{ℕ, _+_, _%_}
 use mathlib.Core.Bool.{Bool, not, _&&_, cond}
 use mathlib.Core.List.{List, [], _∷_, _++_}
 use lib.Dec.{eqb, ltb, leb}
-use lib.ListN.{length, set, take, drop}
+use lib.ListN.{length, getD, set, take, drop}
 use Rattle.rules.specs.Limits.{maxJumps}
 use Rattle.rules.specs.Payload.{Bytes}
 use Rattle.plan.specs.declared.Plan.{Plan}
@@ -12,7 +12,7 @@ use Rattle.plan.specs.declared.Run.{Run}
 use Rattle.plan.specs.declared.State.{State}
 use Rattle.plan.specs.declared.Upload.{Upload}
 use Rattle.plan.specs.declared.Upload.the-variants.{Idle, Running}
-use Rattle.plan.specs.View.{planOf}
+use Rattle.plan.specs.View.{emptyPlan}
 
 -- 4 and 5 the upload's station, 6 its count, 7 its next number, 8 its last start, 9 its repeats
 unfoldable pub pokedRun : Run → (field value : ℕ) → Run
@@ -45,6 +45,13 @@ pokedPlan p field v =
 unfoldable pub fieldFor : (kind index field : ℕ) → ℕ
 fieldFor kind index field = cond (eqb index kind) field 255
 
+unfoldable pub pokedPlans : List Plan → (field index value : ℕ) → List Plan
+pokedPlans plans field index v =
+    pokedPlan (getD plans 0 emptyPlan) (fieldFor 0 index field) v
+    ∷ pokedPlan (getD plans 1 emptyPlan) (fieldFor 1 index field) v
+    ∷ pokedPlan (getD plans 2 emptyPlan) (fieldFor 2 index field) v
+    ∷ []
+
 -- 12 a jump count
 unfoldable pub pokedCounts : List ℕ → (field index value : ℕ) → List ℕ
 pokedCounts counts field index v = cond (eqb field 12 && ltb index maxJumps) (set counts index (v % 65536)) counts
@@ -53,11 +60,7 @@ pokedCounts counts field index v = cond (eqb field 12 && ltb index maxJumps) (se
 unfoldable pub pokedState : State → (field index value : ℕ) → State
 pokedState st field index v =
     record {
-      plans =
-          pokedPlan (planOf st 0) (fieldFor 0 index field) v
-          ∷ pokedPlan (planOf st 1) (fieldFor 1 index field) v
-          ∷ pokedPlan (planOf st 2) (fieldFor 2 index field) v
-          ∷ [];
+      plans = pokedPlans (st .plans) field index v;
       current = cond (eqb field 10) (v % 65536) (st .current);
       begun = cond (eqb field 11) (not (eqb v 0)) (st .begun);
       counts = pokedCounts (st .counts) field index v;

@@ -2,7 +2,7 @@
 ghost use Prim.Native.Nat.{_%_};
 ghost use mathlib.Core.Path.{_≡_};
 ghost use mathlib.Core.Bool.{cond};
-ghost use Rattle.host.specs.Pokes.{fieldFor, pokedRun, pokedUpload, pokedPlan, pokedCounts, pokedState, written};
+ghost use Rattle.host.specs.Pokes.{fieldFor, pokedRun, pokedUpload, pokedPlan, pokedPlans, pokedCounts, pokedState, written};
 use limits::JUMP_COUNTS;
 use plan::Plan;
 use plan::Run;
@@ -76,24 +76,35 @@ fn poked_upload(upload: Upload, field: u8, value: u32) -> Upload
     }
 }
 
-fn poked_plan(plan: Plan, field: u8, value: u32) -> Plan
-    ensures { λ r. ⌜ r ≡ pokedPlan plan field value ⌝ }
-{
-    let before = plan.upload;
-    let upload = poked_upload(before, field, value);
-    Plan {
-        len: set16(field == 0, value, plan.len),
-        half: set_flag(field == 2, value % 2 == 1, plan.half),
-        number: set32(field == 1, value, plan.number),
-        upload,
-    }
-}
-
 // The field that is set of a kind's plan, where the index is a kind.
 fn field_for(kind: u8, index: u8, field: u8) -> u8
     ensures { λ r. ⌜ r ≡ fieldFor kind index field ⌝ }
 {
     if index == kind { field } else { NO_FIELD }
+}
+
+// The plan of a kind, where the index is the kind.
+fn poked_plan(plan: Plan, kind: u8, index: u8, field: u8, value: u32) -> Plan
+    ensures { λ r. ⌜ r ≡ pokedPlan plan (fieldFor kind index field) value ⌝ }
+{
+    let own = field_for(kind, index, field);
+    let before = plan.upload;
+    let upload = poked_upload(before, own, value);
+    Plan {
+        len: set16(own == 0, value, plan.len),
+        half: set_flag(own == 2, value % 2 == 1, plan.half),
+        number: set32(own == 1, value, plan.number),
+        upload,
+    }
+}
+
+fn poked_plans(plans: [Plan; 3], field: u8, index: u8, value: u32) -> [Plan; 3]
+    ensures { λ r. ⌜ r ≡ pokedPlans plans field index value ⌝ }
+{
+    let flight = poked_plan(plans[0], 0, index, field, value);
+    let fence = poked_plan(plans[1], 1, index, field, value);
+    let rally = poked_plan(plans[2], 2, index, field, value);
+    [flight, fence, rally]
 }
 
 fn poked_counts(counts: [u16; JUMP_COUNTS], field: u8, index: u8, value: u32) -> [u16; JUMP_COUNTS]
@@ -113,12 +124,9 @@ pub fn poked(state: State, field: u8, index: u8, value: u32) -> State
     ensures { λ r. ⌜ r ≡ pokedState state field index value ⌝ }
 {
     let plans = state.plans;
-    let flight = poked_plan(plans[0], field_for(0, index, field), value);
-    let fence = poked_plan(plans[1], field_for(1, index, field), value);
-    let rally = poked_plan(plans[2], field_for(2, index, field), value);
     let counts = state.counts;
     State {
-        plans: [flight, fence, rally],
+        plans: poked_plans(plans, field, index, value),
         current: set16(field == 10, value, state.current),
         begun: set_flag(field == 11, value != 0, state.begun),
         counts: poked_counts(counts, field, index, value),

@@ -1,23 +1,34 @@
-// A payload read, and written again.
-use crate::rows::BEFORE;
-use crate::rows::OUTPUT;
-use crate::rows::buffer;
-
-// How many bytes are written of a message that is both read and written here.
-pub fn again(id: u32, p: &[u8], to: &mut [u8]) -> usize {
-    match id {
-        wire::COUNT_ID => reply::write_count(wire::read_count(p), to),
-        wire::ACK_ID => reply::write_ack(wire::read_ack(p), to),
-        wire::REQUEST_INT_ID => reply::write_request_int(wire::read_request_int(p), to),
-        _ => reply::write_item_int(wire::read_item_int(p), to),
+// A payload read, and written again; of a message that is only written, MAVLink's own test values.
+fn current() -> wire::Current {
+    wire::Current {
+        seq: 17235,
+        total: 17339,
+        state: 17,
+        mode: 84,
+        mission: 963497776,
+        fence: 963497984,
+        rally: 963498192,
     }
 }
 
-// The same into a buffer of some bytes, and its line.
-pub fn row(out: &mut [u8; OUTPUT], at: usize, id: u32, p: &[u8], room: usize) -> usize {
-    let mut bytes = [BEFORE; 60];
-    let lent: &mut [u8] = &mut bytes;
-    let end = text::within(room, lent);
-    let n = again(id, p, &mut lent[..end]);
-    buffer(out, at, id as u64, n, text::part(&bytes, 0, room))
+// Severity 5, fifty times `m`, id 19887, chunk 228.
+fn statustext() -> wire::Statustext {
+    wire::Statustext {
+        severity: 5,
+        text: [b'm'; 50],
+        id: 19887,
+        chunk: 228,
+    }
+}
+
+// How many bytes are written of a message.
+pub fn again(id: u32, p: &[u8], to: &mut [u8]) -> usize {
+    match id {
+        wire::CURRENT_ID => reply::write_current(current(), to),
+        wire::COUNT_ID => reply::write_count(wire::read_count(p), to),
+        wire::ACK_ID => reply::write_ack(wire::read_ack(p), to),
+        wire::REQUEST_INT_ID => reply::write_request_int(wire::read_request_int(p), to),
+        wire::STATUSTEXT_ID => reply::write_statustext(statustext(), to),
+        _ => reply::write_item_int(wire::read_item_int(p), to),
+    }
 }

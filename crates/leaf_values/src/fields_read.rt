@@ -1,109 +1,89 @@
-// The fields of a message that is read, in wire order; params and z as bit patterns.
-use item::Item;
-
-// A message's id and its fields, as many as are counted.
-pub struct Fields {
-    pub list: [u64; 16],
-    pub count: usize,
+// The id and the fields of a message that is read, in wire order; params and z as bit patterns.
+fn item_fields(p: &[u8]) -> [u64; 16] {
+    let m = wire::read_item_int(p);
+    let i = m.item;
+    [
+        73,
+        i.bits1 as u64,
+        i.bits2 as u64,
+        i.bits3 as u64,
+        i.bits4 as u64,
+        i.bits_x as u64,
+        i.bits_y as u64,
+        i.bits_z as u64,
+        i.seq as u64,
+        i.command as u64,
+        m.system as u64,
+        m.component as u64,
+        i.frame as u64,
+        m.current as u64,
+        i.autocontinue as u64,
+        i.kind as u64,
+    ]
 }
 
-fn few(id: u64, a: u64, b: u64, c: u64, d: u64, e: u64, count: usize) -> Fields {
-    Fields {
-        list: [id, a, b, c, d, e, 0, 0, 0, 0, 0, 0, 0, 0, 0, 0],
-        count,
-    }
+fn few(id: u64, a: u64, b: u64, c: u64, d: u64, e: u64) -> [u64; 16] {
+    [id, a, b, c, d, e, 0, 0, 0, 0, 0, 0, 0, 0, 0, 0]
 }
 
-fn wide(n: u32) -> u64 {
-    n as u64
+// An id, and one number.
+pub fn pair(id: u32, n: u64) -> [u64; 16] {
+    few(id as u64, n, 0, 0, 0, 0)
 }
 
-fn half(n: u16) -> u64 {
-    n as u64
-}
-
-fn byte(n: u8) -> u64 {
-    n as u64
-}
-
-fn item_fields(id: u64, system: u8, component: u8, current: u8, i: Item) -> Fields {
-    Fields {
-        list: [
-            id,
-            wide(i.bits1),
-            wide(i.bits2),
-            wide(i.bits3),
-            wide(i.bits4),
-            wide(i.bits_x),
-            wide(i.bits_y),
-            wide(i.bits_z),
-            half(i.seq),
-            half(i.command),
-            byte(system),
-            byte(component),
-            byte(i.frame),
-            byte(current),
-            byte(i.autocontinue),
-            byte(i.kind),
-        ],
-        count: 16,
-    }
-}
-
-pub fn fields_of(id: u32, p: &[u8]) -> Fields {
+fn short_fields(id: u32, p: &[u8]) -> [u64; 16] {
     match id {
         wire::SET_CURRENT_ID => {
             let m = wire::read_set_current(p);
-            few(41, half(m.seq), byte(m.system), byte(m.component), 0, 0, 4)
+            few(41, m.seq as u64, m.system as u64, m.component as u64, 0, 0)
         }
         wire::REQUEST_LIST_ID => {
             let m = wire::read_request_list(p);
-            few(43, byte(m.system), byte(m.component), byte(m.kind), 0, 0, 4)
+            few(43, m.system as u64, m.component as u64, m.kind as u64, 0, 0)
         }
+        _ => {
+            let m = wire::read_clear_all(p);
+            few(45, m.system as u64, m.component as u64, m.kind as u64, 0, 0)
+        }
+    }
+}
+
+pub fn fields_of(id: u32, p: &[u8]) -> [u64; 16] {
+    match id {
         wire::COUNT_ID => {
             let m = wire::read_count(p);
             few(
                 44,
-                half(m.count),
-                byte(m.system),
-                byte(m.component),
-                byte(m.kind),
-                wide(m.number),
-                6,
+                m.count as u64,
+                m.system as u64,
+                m.component as u64,
+                m.kind as u64,
+                m.number as u64,
             )
-        }
-        wire::CLEAR_ALL_ID => {
-            let m = wire::read_clear_all(p);
-            few(45, byte(m.system), byte(m.component), byte(m.kind), 0, 0, 4)
         }
         wire::ACK_ID => {
             let m = wire::read_ack(p);
             few(
                 47,
-                byte(m.system),
-                byte(m.component),
-                byte(m.result),
-                byte(m.kind),
-                wide(m.number),
-                6,
+                m.system as u64,
+                m.component as u64,
+                m.result as u64,
+                m.kind as u64,
+                m.number as u64,
             )
         }
         wire::REQUEST_INT_ID => {
             let m = wire::read_request_int(p);
             few(
                 51,
-                half(m.seq),
-                byte(m.system),
-                byte(m.component),
-                byte(m.kind),
+                m.seq as u64,
+                m.system as u64,
+                m.component as u64,
+                m.kind as u64,
                 0,
-                5,
             )
         }
-        _ => {
-            let m = wire::read_item_int(p);
-            let item = m.item;
-            item_fields(73, m.system, m.component, m.current, item)
-        }
+        wire::ITEM_INT_ID => item_fields(p),
+        _ => short_fields(id, p),
     }
 }

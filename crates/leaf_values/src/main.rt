@@ -2,17 +2,22 @@
 // their bytes as they are written, payloads of every length read and written again, buffers that are too short, and whole numbers beyond
 // every rule's range.
 mod again;
+mod cases;
 mod fields_read;
 mod lengths;
-mod rows;
-mod test_values;
+mod lines;
+mod payloads;
 mod wholes;
 
+const OUTPUT: usize = 8192;
+
 fn main() {
-    let mut out = [0u8; rows::OUTPUT];
-    let at = test_values::read(&mut out);
-    let at = test_values::written(&mut out, at);
-    let at = lengths::all(&mut out, at);
-    let at = wholes::all(&mut out, at);
-    rows::finish(&out, at);
+    let mut out = [0u8; OUTPUT];
+    let mut at = 0;
+    let mut i = 1;
+    while i <= cases::COUNT {
+        at = lines::put_line(&mut out, at, cases::case_of(i));
+        i += 1;
+    }
+    text::send(&out, at, usize::MAX);
 }

@@ -1,5 +1,5 @@
 -- The lines, for each way that the tests can go.
-use Prim.Native.Nat.{ℕ, _+_, _<_, _≤_}
+use Prim.Native.Nat.{ℕ, _+_, _<_, _≤_, min}
 use mathlib.Core.Path.{_≡_}
 use mathlib.Core.Bool.{Bool, true, false}
 use mathlib.Core.List.{List, [], _∷_, _++_}
@@ -9,7 +9,7 @@ use lib.Seq.{drop-cons}
 use borrow.Author.Tests.{eq-eqb, ne-eqb}
 use Rattle.text.specs.Added.{Adds}
 use Rattle.text.specs.Digits.{hex}
-use Rattle.text.specs.Laws.{adds-both, adds-after}
+use Rattle.text.specs.Laws.{adds-nothing, adds-both, adds-after}
 use Rattle.script.specs.declared.Next.{Next}
 use Rattle.plan_search.specs.declared.Command.{Command}
 use Rattle.command_words.specs.Commands.{commandText}
@@ -71,3 +71,6 @@ done-line outcome command before between third after at n m r first second last 
 
 pub as-next : (before after : List ℕ) (at r : ℕ) (next is : Next) → next ≡ is → Adds (stopText is) before at after r → Adds (stopText next) before at after r
 as-next before after at r next is e adds = rw e adds
+
+pub no-stop : (before : List ℕ) (at r : ℕ) (next is : Next) → next ≡ is → stopText is ≡ [] → r ≡ min at (length before) → Adds (stopText next) before at before r
+no-stop before at r next is e none ends = rw (e, none) (adds-nothing before at r ends)

@@ -94,7 +94,7 @@ pub fn put_stop(out: &mut [u8], at: usize, next: Next) -> usize
     match next {
         Next::Cut => text::put(out, at, b"? cut\n"),
         Next::Bad(kind) => put_row(out, at, b'?', &[kind as u64]),
-        Next::End => text::put(out, at, b""),
-        Next::Play(_) => text::put(out, at, b""),
+        Next::End => text::within(at, out),
+        Next::Play(_) => text::within(at, out),
     }
 }

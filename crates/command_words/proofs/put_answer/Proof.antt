@@ -4,14 +4,8 @@ use borrow.Author.Needs.{needs}
 use Rattle.command_words.proofs.put_answer.Statement.{statement}
 use Rattle.command_words.proofs.put_answer.Tie as tie
 
-slice-aggregate-part : tie.Need-slice-aggregate-part
-slice-aggregate-part c = search needs
-
-part-requires : tie.Need-part-requires
-part-requires c κs = search needs
-
-put-requires : tie.Need-put-requires
-put-requires c κs = search needs
+put-word-requires : tie.Need-put-word-requires
+put-word-requires c κs = search needs
 
 slice-aggregate-first : tie.Need-slice-aggregate-first
 slice-aggregate-first c = search needs
@@ -31,12 +25,6 @@ same-length c = search needs
 returns : tie.Need-returns
 returns c = search (answer-value, needs)
 
-slice-aggregate-put : tie.Need-slice-aggregate-put
-slice-aggregate-put c = search needs
-
-put-requires-2 : tie.Need-put-requires-2
-put-requires-2 c κs = search needs
-
 same-length-2 : tie.Need-same-length-2
 same-length-2 c = search needs
 
@@ -47,16 +35,12 @@ pub put-answer-spec : {M : Type 1} → statement M
 put-answer-spec =
     tie.close
     (tie.spec
-    slice-aggregate-part
-    part-requires
-    put-requires
+    put-word-requires
     slice-aggregate-first
     first-requires
     put-numbers-requires
     put-value-requires
     same-length
     returns
-    slice-aggregate-put
-    put-requires-2
     same-length-2
     returns-2)

@@ -4,32 +4,8 @@ use borrow.Author.Needs.{needs}
 use Rattle.host.proofs.poked.Statement.{statement}
 use Rattle.host.proofs.poked.Tie as tie
 
-array-copy-out-poked-plan : tie.Need-array-copy-out-poked-plan
-array-copy-out-poked-plan c = search needs
-
-field-for-requires : tie.Need-field-for-requires
-field-for-requires c κs = search needs
-
-poked-plan-requires : tie.Need-poked-plan-requires
-poked-plan-requires c κs = search needs
-
-array-copy-out-poked-plan-2 : tie.Need-array-copy-out-poked-plan-2
-array-copy-out-poked-plan-2 c = search needs
-
-field-for-requires-2 : tie.Need-field-for-requires-2
-field-for-requires-2 c κs = search needs
-
-poked-plan-requires-2 : tie.Need-poked-plan-requires-2
-poked-plan-requires-2 c κs = search needs
-
-array-copy-out-poked-plan-3 : tie.Need-array-copy-out-poked-plan-3
-array-copy-out-poked-plan-3 c = search needs
-
-field-for-requires-3 : tie.Need-field-for-requires-3
-field-for-requires-3 c κs = search needs
-
-poked-plan-requires-3 : tie.Need-poked-plan-requires-3
-poked-plan-requires-3 c κs = search needs
+poked-plans-requires : tie.Need-poked-plans-requires
+poked-plans-requires c κs = search needs
 
 set16-requires : tie.Need-set16-requires
 set16-requires c κs = search needs
@@ -46,17 +22,4 @@ returns c = search (state-set, needs)
 pub poked-spec : {M : Type 1} → statement M
 poked-spec =
     tie.close
-    (tie.spec
-    array-copy-out-poked-plan
-    field-for-requires
-    poked-plan-requires
-    array-copy-out-poked-plan-2
-    field-for-requires-2
-    poked-plan-requires-2
-    array-copy-out-poked-plan-3
-    field-for-requires-3
-    poked-plan-requires-3
-    set16-requires
-    set-flag-requires
-    poked-counts-requires
-    returns)
+    (tie.spec poked-plans-requires set16-requires set-flag-requires poked-counts-requires returns)

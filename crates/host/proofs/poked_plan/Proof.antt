@@ -1,8 +1,11 @@
 -- `host::poked_plan` meets its contract, field by field.
-use Rattle.host.specs.Pokes.{pokedPlan}
+use Rattle.host.proofs.Ways.{plan-set}
 use borrow.Author.Needs.{needs}
 use Rattle.host.proofs.poked_plan.Statement.{statement}
 use Rattle.host.proofs.poked_plan.Tie as tie
+
+field-for-requires : tie.Need-field-for-requires
+field-for-requires c κs = search needs
 
 poked-upload-requires : tie.Need-poked-upload-requires
 poked-upload-requires c κs = search needs
@@ -17,10 +20,13 @@ set32-requires : tie.Need-set32-requires
 set32-requires c κs = search needs
 
 returns : tie.Need-returns
-unfolding pokedPlan
-returns c = cc
+returns c =
+    let h = c .before in
+    let l = h .before in
+    let u = l .before in
+    plan-set _ _ _ _ (u .before .field-for .ensures) _ _ _ _ (l .set16 .ensures) (h .set-flag .ensures) (c .set32 .ensures) (u .poked-upload .ensures)
 
 pub poked-plan-spec : {M : Type 1} → statement M
 poked-plan-spec =
     tie.close
-    (tie.spec poked-upload-requires set16-requires set-flag-requires set32-requires returns)
+    (tie.spec field-for-requires poked-upload-requires set16-requires set-flag-requires set32-requires returns)

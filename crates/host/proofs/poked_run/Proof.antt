@@ -24,7 +24,19 @@ set8-requires-3 c κs = search needs
 
 returns : tie.Need-returns
 unfolding pokedRun
-returns c = cc
+returns c =
+    let c1 = c .before in
+    let c2 = c1 .before in
+    let c3 = c2 .before in
+    let c4 = c3 .before in
+    λ i. record {
+      system = (c4 .before .set8 .ensures) i;
+      component = (c4 .set82 .ensures) i;
+      count = (c3 .set16 .ensures) i;
+      next = (c2 .set162 .ensures) i;
+      started = (c1 .set32 .ensures) i;
+      repeats = (c .set83 .ensures) i;
+    }
 
 pub poked-run-spec : {M : Type 1} → statement M
 poked-run-spec =

@@ -12,7 +12,9 @@ write-fits-requires c κs = search needs
 
 returns : tie.Need-returns
 unfolding fits
-returns c = cc
+returns c =
+    let w = c .before .before .before in
+    rw (w .write-fits .ensures, w .before .before .poke-fits .ensures)
 
 pub fits-spec : {M : Type 1} → statement M
 fits-spec = tie.close (tie.spec poke-fits-requires write-fits-requires returns)

@@ -1,4 +1,5 @@
 -- `script::record_in` meets its contract: each field is the number at its offset.
+use mathlib.Core.Path.{_∙_}
 use Rattle.script.specs.Records.{recordIn}
 use borrow.Author.Needs.{needs}
 use Rattle.script.proofs.record_in.Statement.{statement}
@@ -48,7 +49,30 @@ size-requires-2 c κs = search needs
 
 returns : tie.Need-returns
 unfolding recordIn
-returns c = cc
+returns c =
+    let reply = c .before in
+    let store = reply .before .before in
+    let clock = store .before in
+    let a = clock .before in
+    let len = a .before .before in
+    let b4 = len .before in
+    let b3 = b4 .before in
+    let b2 = b3 .before in
+    let b1 = b2 .before in
+    let b0 = b1 .before in
+    λ i. record {
+      kind = (b0 .before .byte-at .ensures) i;
+      b0 = (b0 .byte-at2 .ensures) i;
+      b1 = (b1 .byte-at3 .ensures) i;
+      b2 = (b2 .byte-at4 .ensures) i;
+      b3 = (b3 .byte-at5 .ensures) i;
+      b4 = (b4 .byte-at6 .ensures) i;
+      len = (a .before .payload-size .ensures ∙ len .u16-at .ensures) i;
+      a = (a .u32-at .ensures) i;
+      clock = (clock .u32-at2 .ensures) i;
+      store = (reply .before .size .ensures ∙ store .u32-at3 .ensures) i;
+      reply = (c .size2 .ensures ∙ reply .u32-at4 .ensures) i;
+    }
 
 pub record-in-spec : {M : Type 1} → statement M
 record-in-spec =

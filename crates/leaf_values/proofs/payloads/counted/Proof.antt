@@ -1,8 +1,8 @@
--- `leaf_values::lengths::payload` meets its contract: `i` stays at most 300.
+-- `leaf_values::payloads::counted` meets its contract: `i` stays at most 300.
 use Prim.Native.Nat.{_-_, _≤_}
 use borrow.Author.Needs.{needs}
-use Rattle.leaf_values.proofs.lengths.payload.Statement.{statement}
-use Rattle.leaf_values.proofs.lengths.payload.Tie as tie
+use Rattle.leaf_values.proofs.payloads.counted.Statement.{statement}
+use Rattle.leaf_values.proofs.payloads.counted.Tie as tie
 
 abbrev Inv-loop : tie.InvT-loop
 Inv-loop p₀ i₀ p i = i ≤ 300
@@ -34,8 +34,8 @@ loop-again c = search needs
 returns : tie.Need-returns Inv-loop μ-loop
 returns c = search needs
 
-pub payload-spec : {M : Type 1} → statement M
-payload-spec =
+pub counted-spec : {M : Type 1} → statement M
+counted-spec =
     tie.close
     (tie.spec
     Inv-loop

@@ -1,0 +1,54 @@
+// The line of a case: a word, numbers, and the bytes of a buffer in hex.
+use crate::again::again;
+use crate::cases;
+use crate::cases::Case;
+use crate::fields_read::fields_of;
+use crate::fields_read::pair;
+use crate::lengths::agreeing;
+use crate::payloads::payloads;
+use crate::wholes::verdict;
+
+// What a buffer holds before it is written to.
+pub const BEFORE: u8 = 0xAA;
+
+// The numbers of a line; a message is written into the first bytes of the buffer, as many as the case says.
+fn numbers(case: Case, to: &mut [u8]) -> [u64; 16] {
+    let p = payloads();
+    let own = text::part(&p, case.from, case.len);
+    let word = case.word;
+    match word {
+        cases::READ => fields_of(case.id, own),
+        cases::WRITTEN => {
+            let end = text::within(case.room, to);
+            pair(case.id, again(case.id, own, &mut to[..end]) as u64)
+        }
+        cases::LENGTHS => pair(case.id, agreeing(case.id, &p, case.len)),
+        _ => pair(case.id, verdict(case.id, case.meant)),
+    }
+}
+
+fn put_numbers(out: &mut [u8], at: usize, from: usize, letters: usize, list: &[u64]) -> usize {
+    let words = cases::words();
+    let at = text::put(out, at, text::part(&words, from, letters));
+    text::put_numbers(out, at, list)
+}
+
+// A space and the bytes, where there are any, and the line's end.
+fn put_bytes(out: &mut [u8], at: usize, bytes: &[u8]) -> usize {
+    let at = text::put(out, at, text::part(b" ", 0, bytes.len()));
+    let at = text::put_hex(out, at, bytes);
+    text::put_byte(out, at, b'\n')
+}
+
+pub fn put_line(out: &mut [u8], at: usize, case: Case) -> usize {
+    let mut bytes = [BEFORE; 60];
+    let list = numbers(case, &mut bytes);
+    let at = put_numbers(
+        out,
+        at,
+        case.word,
+        case.letters,
+        text::first(&list, case.numbers),
+    );
+    put_bytes(out, at, text::part(&bytes, 0, case.room))
+}
