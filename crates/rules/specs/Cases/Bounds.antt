@@ -10,6 +10,7 @@ use Rattle.rules.specs.Messages.{Item, count, ack, requestInt}
 use Rattle.rules.specs.Model.{Model, Plan, idle, running, fresh}
 use Rattle.rules.specs.Step.{Answer, refused, says, replyBytes}
 use Rattle.rules.specs.Cases.{computing, Case, numbers, answer, _is_, Hold, tablet, sendsItem, asksForList, ticks, after, f1, f2, f3, fNaN, fMinusOne, itemWith, itemAs, waypoint, jumpTo, vertex, plansOf, resting, uploads, judges}
+use Rattle.rules.specs.Cases.Readings.{readings-hold}
 
 -- ---- the result for an item
 
@@ -145,4 +146,4 @@ bounds =
 -- Every case holds.
 pub bounds-hold : Hold bounds
 unfolding computing
-bounds-hold = refl
+bounds-hold = let earlier = readings-hold in refl

@@ -13,6 +13,7 @@ use Rattle.rules.specs.Model.{Model, Upload, idle, running, fresh, uploa
 use Rattle.rules.specs.Calls.{Call, message, timer, done}
 use Rattle.rules.specs.Step.{refused, silent, says, refusalText, run, replyBytes}
 use Rattle.rules.specs.Cases.{computing, Case, number, bytes, answer, shown, upload, model, _is_, Hold, vehicle, tablet, neighbour, sends, sendsCount, sendsItem, sendsAck, sendsClear, asksForList, asksForItem, setsCurrent, ticks, finishes, after, f2, f3, f4, fNaN, fMinusZero, fMinusOne, itemAs, waypoint, jumpTo, vertex, circle, planWith, plansOf, flying, uploads, judges, verdict}
+use Rattle.rules.specs.Cases.Guards.{guards-hold}
 
 -- ---- what the cases start from
 
@@ -187,4 +188,4 @@ readings =
 -- Every case holds.
 pub readings-hold : Hold readings
 unfolding computing
-readings-hold = refl
+readings-hold = let earlier = guards-hold in refl
