@@ -124,7 +124,7 @@ fn put_shown(
 ) -> usize {
     match kind {
         script::DUMP => dump::put_dump(out, at, state, store),
-        script::CMP => lines::put_row(out, at, b's', &[check::same(store, copy) as u64]),
+        script::CMP => rows::put_row(out, at, b's', &[check::same(store, copy) as u64]),
         _ => at,
     }
 }

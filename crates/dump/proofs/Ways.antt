@@ -20,7 +20,7 @@ use Rattle.plan.specs.View.{planOf, view}
 use Rattle.text.specs.Added.{Adds}
 use Rattle.text.specs.Digits.{spaced, hex}
 use Rattle.text.specs.Laws.{adds-both, adds-after}
-use Rattle.lines.specs.Lines.{begun, row}
+use Rattle.rows.specs.Rows.{begun, row}
 use Rattle.dump.specs.Dumps.{itemLine, itemLines, flag, uploadLine, brought, planLine, kindText, currentLine, stateText, dumpText}
 
 pub flag-set : (b : Bool) → b ≡ true → 1 ≡ flag b

@@ -13,7 +13,7 @@ use Rattle.places.specs.Places.{itemAt}
 use Rattle.plan.specs.View.{planOf, view}
 use Rattle.text.specs.Words.{ascii}
 use Rattle.text.specs.Digits.{spaced, hex}
-use Rattle.lines.specs.Lines.{begun, row}
+use Rattle.rows.specs.Rows.{begun, row}
 
 -- "`i K I BYTES` ..: the 38 bytes at the plan's place I", "`w K I BYTES` ..: the 38 bytes in the other half"
 abbrev pub itemLine : (letter kind n : ℕ) → Bytes → Bytes

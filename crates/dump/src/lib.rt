@@ -17,7 +17,7 @@ fn put_item(out: &mut [u8], at: usize, letter: u8, kind: u8, n: u16, bytes: &[u8
     ensures { λ r. ⌜ Adds (itemLine letter kind n (now (bytes .entry))) (now (out .entry)) at (now (out .exit)) r ⌝ }
 {
     let list = [kind as u64, n as u64];
-    let end = lines::put_begun(out, at, letter, &list);
+    let end = rows::put_begun(out, at, letter, &list);
     let end = text::put_byte(out, end, b' ');
     let end = text::put_hex(out, end, bytes);
     text::put_byte(out, end, b'\n')
@@ -64,14 +64,14 @@ fn put_run(out: &mut [u8], at: usize, kind: u8, run: Run) -> usize
         run.started as u64,
         run.repeats as u64,
     ];
-    lines::put_row(out, at, b'u', &list)
+    rows::put_row(out, at, b'u', &list)
 }
 
 fn put_idle(out: &mut [u8], at: usize, kind: u8) -> usize
     ensures { λ r. ⌜ Adds (uploadLine kind Upload.Idle) (now (out .entry)) at (now (out .exit)) r ⌝ }
 {
     let list = [kind as u64];
-    let end = lines::put_begun(out, at, b'u', &list);
+    let end = rows::put_begun(out, at, b'u', &list);
     text::put(out, end, b" -\n")
 }
 
@@ -104,7 +104,7 @@ fn put_plan(out: &mut [u8], at: usize, kind: u8, plan: Plan) -> usize
         plan::number_shown(plan) as u64,
         flag(plan.half),
     ];
-    let end = lines::put_row(out, at, b'k', &list);
+    let end = rows::put_row(out, at, b'k', &list);
     let upload = plan.upload;
     put_upload(out, end, kind, upload)
 }
@@ -130,7 +130,7 @@ fn put_current(
     ensures { λ r. ⌜ Adds (currentLine current begun counts) (now (out .entry)) at (now (out .exit)) r ⌝ }
 {
     let list = [current as u64, flag(begun)];
-    let end = lines::put_begun(out, at, b'c', &list);
+    let end = rows::put_begun(out, at, b'c', &list);
     let end = text::put_shorts(out, end, &counts);
     text::put_byte(out, end, b'\n')
 }

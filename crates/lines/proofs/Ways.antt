@@ -13,7 +13,8 @@ use Rattle.text.specs.Laws.{adds-nothing, adds-both, adds-after}
 use Rattle.script.specs.declared.Next.{Next}
 use Rattle.plan_search.specs.declared.Command.{Command}
 use Rattle.command_words.specs.Commands.{commandText}
-use Rattle.lines.specs.Lines.{begun, replyText, untouched, markedEnd, servedLine, doneLine, stopText}
+use Rattle.rows.specs.Rows.{begun}
+use Rattle.lines.specs.Lines.{replyText, untouched, markedEnd, servedLine, doneLine, stopText}
 
 -- the bytes past a reply
 

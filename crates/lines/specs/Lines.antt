@@ -6,15 +6,12 @@ use mathlib.Core.List.{List, [], _∷_, _++_}
 use lib.Dec.{eqb}
 use lib.ListN.{take, drop}
 use Rattle.text.specs.Words.{ascii}
-use Rattle.text.specs.Digits.{spaced, hex}
+use Rattle.text.specs.Digits.{hex}
+use Rattle.rows.specs.Rows.{begun, row}
 use Rattle.script.specs.declared.Next.{Next}
 use Rattle.script.specs.declared.Next.the-variants.{Play, End, Cut, Bad}
 use Rattle.plan_search.specs.declared.Command.{Command}
 use Rattle.command_words.specs.Commands.{commandText}
-
--- a letter, and numbers after it
-abbrev pub begun : (letter : ℕ) (ns : List ℕ) → List ℕ
-begun letter ns = letter ∷ spaced ns
 
 -- "the first LEN bytes of the reply array in hex, or `-` when LEN is 0"
 unfoldable pub replyText : (len : ℕ) (reply : List ℕ) → List ℕ
@@ -38,10 +35,6 @@ servedLine letter outcome id len reply =
 -- "`d OUTCOME ANSWER` for a done call"
 unfoldable pub doneLine : (outcome : ℕ) → Command → List ℕ
 doneLine outcome command = begun 100 (outcome ∷ []) ++ (commandText command ++ ascii "\n")
-
--- a letter and numbers as a line
-abbrev pub row : (letter : ℕ) (ns : List ℕ) → List ℕ
-row letter ns = begun letter ns ++ ascii "\n"
 
 -- "the line `? TYPE`, and the program stops. A record cut by the end of input: `? cut`."
 unfoldable pub stopText : Next → List ℕ

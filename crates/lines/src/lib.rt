@@ -3,20 +3,12 @@ ghost use mathlib.Core.Path.{_≡_};
 ghost use mathlib.Core.List.{_∷_};
 ghost use lib.ListN.{drop};
 ghost use Rattle.text.specs.Added.{Adds};
-ghost use Rattle.lines.specs.Lines.{begun, replyText, untouched as Lines·untouched, markedEnd, servedLine, doneLine, row, stopText};
+ghost use Rattle.lines.specs.Lines.{replyText, untouched as Lines·untouched, markedEnd, servedLine, doneLine, stopText};
 use plan_search::Command;
 use script::Next;
 
 // What a reply array holds before a call.
 pub const REPLY_FILL: u8 = 0xA5;
-
-// A letter and numbers: what every line begins with.
-pub fn put_begun(out: &mut [u8], at: usize, letter: u8, list: &[u64]) -> usize
-    ensures { λ r. ⌜ Adds (begun letter (now (list .entry))) (now (out .entry)) at (now (out .exit)) r ⌝ }
-{
-    let end = text::put_byte(out, at, letter);
-    text::put_numbers(out, end, list)
-}
 
 fn put_reply(out: &mut [u8], at: usize, len: usize, reply: &[u8]) -> usize
     ensures { λ r. ⌜ Adds (32 ∷ replyText len (now (reply .entry))) (now (out .entry)) at (now (out .exit)) r ⌝ }
@@ -64,7 +56,7 @@ pub fn put_served(
     ensures { λ r. ⌜ Adds (servedLine letter outcome id len (now (reply .entry))) (now (out .entry)) at (now (out .exit)) r ⌝ }
 {
     let list = [outcome as u64, id as u64, len as u64];
-    let end = put_begun(out, at, letter, &list);
+    let end = rows::put_begun(out, at, letter, &list);
     let end = put_reply(out, end, len, reply);
     put_end(out, end, untouched(reply, len))
 }
@@ -74,16 +66,8 @@ pub fn put_done(out: &mut [u8], at: usize, outcome: u8, command: Command) -> usi
     ensures { λ r. ⌜ Adds (doneLine outcome command) (now (out .entry)) at (now (out .exit)) r ⌝ }
 {
     let list = [outcome as u64];
-    let end = put_begun(out, at, b'd', &list);
+    let end = rows::put_begun(out, at, b'd', &list);
     let end = command_words::put_command(out, end, command);
-    text::put_byte(out, end, b'\n')
-}
-
-// A letter and numbers as a line.
-pub fn put_row(out: &mut [u8], at: usize, letter: u8, list: &[u64]) -> usize
-    ensures { λ r. ⌜ Adds (row letter (now (list .entry))) (now (out .entry)) at (now (out .exit)) r ⌝ }
-{
-    let end = put_begun(out, at, letter, list);
     text::put_byte(out, end, b'\n')
 }
 
@@ -93,7 +77,7 @@ pub fn put_stop(out: &mut [u8], at: usize, next: Next) -> usize
 {
     match next {
         Next::Cut => text::put(out, at, b"? cut\n"),
-        Next::Bad(kind) => put_row(out, at, b'?', &[kind as u64]),
+        Next::Bad(kind) => rows::put_row(out, at, b'?', &[kind as u64]),
         Next::End => text::within(at, out),
         Next::Play(_) => text::within(at, out),
     }

@@ -1,8 +1,8 @@
--- `lines::put_begun` meets its contract: the letter, then the numbers.
+-- `rows::put_begun` meets its contract: the letter, then the numbers.
 use Rattle.text.specs.Laws.{adds-after}
 use borrow.Author.Needs.{needs}
-use Rattle.lines.proofs.put_begun.Statement.{statement}
-use Rattle.lines.proofs.put_begun.Tie as tie
+use Rattle.rows.proofs.put_begun.Statement.{statement}
+use Rattle.rows.proofs.put_begun.Tie as tie
 
 put-byte-requires : tie.Need-put-byte-requires
 put-byte-requires c κs = search needs

@@ -1,8 +1,8 @@
--- `lines::put_row` meets its contract: the numbers, then the line's end.
+-- `rows::put_row` meets its contract: the numbers, then the line's end.
 use Rattle.text.specs.Laws.{adds-both}
 use borrow.Author.Needs.{needs}
-use Rattle.lines.proofs.put_row.Statement.{statement}
-use Rattle.lines.proofs.put_row.Tie as tie
+use Rattle.rows.proofs.put_row.Statement.{statement}
+use Rattle.rows.proofs.put_row.Tie as tie
 
 put-begun-requires : tie.Need-put-begun-requires
 put-begun-requires c κs = search needs

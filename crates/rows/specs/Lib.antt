@@ -1,0 +1,2 @@
+-- Rows of numbers.
+pub mod Rows
