@@ -106,7 +106,7 @@ fn between(
         }
         script::POKE => host::poked(state, r.b4, r.b0, r.a),
         script::WRITE => {
-            host::write(store, r.a as usize, payload);
+            writing::write(store, r.a as usize, payload);
             state
         }
         _ => state,

@@ -17,7 +17,7 @@ use Rattle.plan.specs.declared.State.{State}
 use Rattle.plan.specs.declared.Upload.{Upload}
 use Rattle.plan.specs.declared.Upload.the-variants.{Idle, Running}
 use Rattle.plan.specs.View.{emptyPlan}
-use Rattle.host.specs.Pokes.{fieldFor, pokedRun, pokedUpload, pokedPlan, pokedPlans, pokedCounts, pokedState, written}
+use Rattle.host.specs.Pokes.{fieldFor, pokedRun, pokedUpload, pokedPlan, pokedPlans, pokedCounts, pokedState}
 
 module _ (u : Upload) (field v : ℕ) where
   module _ (idle : u ≡ Idle) where
@@ -80,28 +80,3 @@ module _ (counts : List ℕ) (field index v : ℕ) where
   pub count-left : (eqb field 12 && ltb index maxJumps) ≡ false → counts ≡ pokedCounts counts field index v
   unfolding pokedCounts
   count-left e = rw e
-
-module _ (store : Bytes) (at : ℕ) (bytes : Bytes) where
-  pub no-place : length store < at → store ≡ written store at bytes
-  unfolding written
-  no-place h = rw (lt-leb (at + length bytes) (length store) (omega arith))
-
-  pub no-room : at ≤ length store → length store - at < length bytes → store ≡ written store at bytes
-  unfolding written
-  no-room h short = rw (lt-leb (at + length bytes) (length store) (omega arith))
-
-  module _ (h : at ≤ length store) (fits : length bytes ≤ length store - at) where
-    rest : drop (length store - at) (drop at store) ≡ []
-    rest = let past : length (drop at store) ≤ length store - at = omega (arith, length-drop at store) in drop-of-length-le (drop at store) past
-
-    all : take (length store - at) (drop at store) ≡ drop at store
-    all = take-all (length store - at) (drop at store) (omega (arith, length-drop at store))
-
-    pub copied
-        : (part : Bytes)
-        → part ≡ take (length bytes) bytes ++ drop (length bytes) (take (length store - at) (drop at store))
-        → putMid at (length store - at) store part ≡ written store at bytes
-    unfolding written
-    copied part e =
-        rw (le-leb (at + length bytes) (length store) (omega arith), e, rest, all, take-length bytes, drop-drop (length bytes) at store)
-        (ap (λ (l : Bytes). take at store ++ l) (append-nil (bytes ++ drop (at + length bytes) store)))

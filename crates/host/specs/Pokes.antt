@@ -1,5 +1,4 @@
 -- A number of the state that a host sets, by its field and index: POKE of a call script. "b4 is the field, b0 the index, a the new value."
--- And bytes that it writes into the store.
 use Prim.Native.Nat.{ℕ, _+_, _%_}
 use mathlib.Core.Bool.{Bool, not, _&&_, cond}
 use mathlib.Core.List.{List, [], _∷_, _++_}
@@ -65,7 +64,3 @@ pokedState st field index v =
       begun = cond (eqb field 11) (not (eqb v 0)) (st .begun);
       counts = pokedCounts (st .counts) field index v;
     }
-
--- bytes in the place of as many from a place on, where all of them fit
-unfoldable pub written : Bytes → (at : ℕ) → Bytes → Bytes
-written store at bytes = cond (leb (at + length bytes) (length store)) (take at store ++ (bytes ++ drop (at + length bytes) store)) store

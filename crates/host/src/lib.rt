@@ -1,8 +1,8 @@
-// What a host does between the calls: it sets a number of the state, or writes bytes into the store.
+// What a host does to the state between the calls: it sets a number of it.
 ghost use Prim.Native.Nat.{_%_};
 ghost use mathlib.Core.Path.{_≡_};
 ghost use mathlib.Core.Bool.{cond};
-ghost use Rattle.host.specs.Pokes.{fieldFor, pokedRun, pokedUpload, pokedPlan, pokedPlans, pokedCounts, pokedState, written};
+ghost use Rattle.host.specs.Pokes.{fieldFor, pokedRun, pokedUpload, pokedPlan, pokedPlans, pokedCounts, pokedState};
 use limits::JUMP_COUNTS;
 use plan::Plan;
 use plan::Run;
@@ -131,17 +131,4 @@ pub fn poked(state: State, field: u8, index: u8, value: u32) -> State
         begun: set_flag(field == 11, value != 0, state.begun),
         counts: poked_counts(counts, field, index, value),
     }
-}
-
-// Bytes go into the store from a place on, where all of them fit.
-pub fn write(store: &mut [u8], at: usize, payload: &[u8])
-    ensures { λ _. ⌜ now (store .exit) ≡ written (now (store .entry)) at (now (payload .entry)) ⌝ }
-{
-    if store.len() < at {
-        return;
-    }
-    if store.len() - at < payload.len() {
-        return;
-    }
-    bytes::copy(payload, &mut store[at..]);
 }

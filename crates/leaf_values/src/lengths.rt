@@ -9,7 +9,7 @@ fn agrees(id: u32, p: &[u8], full: usize) -> bool {
     let n = again(id, p, &mut bytes);
     let own = text::part(p, 0, full);
     let mut wanted = [BEFORE; 60];
-    host::write(&mut wanted, 0, own);
+    writing::write(&mut wanted, 0, own);
     (n == own.len()) & check::same(&bytes, &wanted)
 }
 

@@ -32,6 +32,6 @@ fn counted() -> [u8; ALL] {
 pub fn payloads() -> [u8; ALL] {
     let mut p = counted();
     let tests = test_values();
-    host::write(&mut p, LONGEST, &tests);
+    writing::write(&mut p, LONGEST, &tests);
     p
 }

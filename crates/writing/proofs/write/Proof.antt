@@ -1,9 +1,9 @@
--- `host::write` meets its contract: the bytes are copied where all of them fit.
-use Rattle.host.proofs.Ways.{no-place, no-room, copied}
+-- `writing::write` meets its contract: the bytes are copied where all of them fit.
+use Rattle.writing.proofs.Ways.{no-place, no-room, copied}
 use denote.Ref.{now}
 use borrow.Author.Needs.{needs}
-use Rattle.host.proofs.write.Statement.{statement}
-use Rattle.host.proofs.write.Tie as tie
+use Rattle.writing.proofs.write.Statement.{statement}
+use Rattle.writing.proofs.write.Tie as tie
 
 returns : tie.Need-returns
 returns c = search (no-place, needs)

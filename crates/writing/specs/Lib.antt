@@ -1,0 +1,2 @@
+-- Bytes written over others.
+pub mod Written
