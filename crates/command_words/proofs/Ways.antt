@@ -7,9 +7,9 @@ use lib.Dec.{T}
 use lib.Ieee.{Float, nan, inf, fin, up, down, eq, isNan, binary32, toBits}
 use lib.ListN.{take, drop}
 use borrow.Author.Tests.{eq-eqb}
-use Rattle.text.specs.Added.{Adds}
+use Rattle.adding.specs.Added.{Adds}
 use Rattle.text.specs.Digits.{spaced, hex}
-use Rattle.text.specs.Laws.{adds-both, adds-after}
+use Rattle.adding.specs.Laws.{adds-both, adds-after}
 use Rattle.plan_search.specs.declared.Command.{Command}
 use Rattle.command_words.specs.declared.Answer.{Answer}
 use Rattle.command_words.specs.Commands.{highFirst, valueText, commandText, words, wordOf, answerText}

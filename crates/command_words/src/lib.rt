@@ -3,7 +3,7 @@ ghost use mathlib.Core.Path.{_≡_};
 ghost use mathlib.Core.List.{[], _∷_, _++_};
 ghost use lib.Ieee.{binary32, toBits};
 ghost use lib.ListN.{take};
-ghost use Rattle.text.specs.Added.{Adds};
+ghost use Rattle.adding.specs.Added.{Adds};
 ghost use Rattle.text.specs.Digits.{spaced};
 ghost use Rattle.command_words.specs.Commands.{valueText, words as Commands·words, wordOf, answerText, commandText};
 use plan_search::Command;

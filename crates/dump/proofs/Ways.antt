@@ -17,9 +17,9 @@ use Rattle.plan.specs.declared.Upload.the-variants.{Idle, Running}
 use Rattle.places.specs.Part.{part}
 use Rattle.places.specs.Places.{offsetOf, itemAt}
 use Rattle.plan.specs.View.{planOf, view}
-use Rattle.text.specs.Added.{Adds}
+use Rattle.adding.specs.Added.{Adds}
 use Rattle.text.specs.Digits.{spaced, hex}
-use Rattle.text.specs.Laws.{adds-both, adds-after}
+use Rattle.adding.specs.Laws.{adds-both, adds-after}
 use Rattle.rows.specs.Rows.{begun, row}
 use Rattle.dump.specs.Dumps.{itemLine, itemLines, flag, uploadLine, brought, planLine, kindText, currentLine, stateText, dumpText}
 

@@ -1,6 +1,6 @@
 // The lines of a dump: the state, and the items of plans and uploads.
 ghost use mathlib.Core.Path.{_≡_};
-ghost use Rattle.text.specs.Added.{Adds};
+ghost use Rattle.adding.specs.Added.{Adds};
 ghost use Rattle.dump.specs.Dumps.{itemLine, itemLines, flag as Dumps·flag, brought as Dumps·brought, uploadLine, planLine, kindText, currentLine, stateText, dumpText};
 use limits::FENCE;
 use limits::FLIGHT;

@@ -7,9 +7,9 @@ use native.Mathlib.Numerals.{add-one}
 use lib.ListN.{length, getD, take, drop, drop-of-length-le}
 use lib.Seq.{drop-cons}
 use borrow.Author.Tests.{eq-eqb, ne-eqb}
-use Rattle.text.specs.Added.{Adds}
+use Rattle.adding.specs.Added.{Adds}
 use Rattle.text.specs.Digits.{hex}
-use Rattle.text.specs.Laws.{adds-nothing, adds-both, adds-after}
+use Rattle.adding.specs.Laws.{adds-nothing, adds-both, adds-after}
 use Rattle.script.specs.declared.Next.{Next}
 use Rattle.plan_search.specs.declared.Command.{Command}
 use Rattle.command_words.specs.Commands.{commandText}

@@ -2,7 +2,7 @@
 ghost use mathlib.Core.Path.{_≡_};
 ghost use mathlib.Core.List.{_∷_};
 ghost use lib.ListN.{drop};
-ghost use Rattle.text.specs.Added.{Adds};
+ghost use Rattle.adding.specs.Added.{Adds};
 ghost use Rattle.lines.specs.Lines.{replyText, untouched as Lines·untouched, markedEnd, servedLine, doneLine, stopText};
 use plan_search::Command;
 use script::Next;

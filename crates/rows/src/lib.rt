@@ -1,5 +1,5 @@
 // A line that is a letter and numbers, and what every line begins with.
-ghost use Rattle.text.specs.Added.{Adds};
+ghost use Rattle.adding.specs.Added.{Adds};
 ghost use Rattle.rows.specs.Rows.{begun, row};
 
 // A letter and numbers: what every line begins with.

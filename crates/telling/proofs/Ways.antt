@@ -6,7 +6,7 @@ use native.Mathlib.Omega.{arith}
 use lib.ListN.{getD, take, drop}
 use borrow.Author.Tests.{eq-eqb, ne-eqb}
 use Rattle.rules.specs.Messages.{Message, Item, station, count, ack, requestInt, itemInt, decode}
-use Rattle.text.specs.Added.{Adds}
+use Rattle.adding.specs.Added.{Adds}
 use Rattle.text.specs.Words.{ascii}
 use Rattle.names.specs.declared.Word.{Word}
 use Rattle.words.specs.Filled.{filled, filledTo, taken, takes, piece}

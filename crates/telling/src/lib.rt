@@ -2,7 +2,7 @@
 ghost use mathlib.Core.Path.{_≡_};
 ghost use mathlib.Core.List.{[], _∷_, _++_};
 ghost use lib.ListN.{take, drop};
-ghost use Rattle.text.specs.Added.{Adds};
+ghost use Rattle.adding.specs.Added.{Adds};
 ghost use Rattle.words.specs.Filled.{filled};
 ghost use Rattle.names.specs.Names.{wordText};
 ghost use Rattle.telling.specs.Told.{itemText, numberText, answerText};

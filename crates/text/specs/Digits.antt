@@ -3,6 +3,7 @@ use Prim.Native.Nat.{ℕ, zero, suc, _+_, _/_, _%_}
 use mathlib.Core.Bool.{cond}
 use mathlib.Core.List.{List, [], _∷_, _++_}
 use lib.Dec.{ltb}
+use Rattle.adding.specs.Added.{each}
 
 -- the digit of a number below 16: `0` to `9`, `A` to `F`
 unfoldable pub digit : ℕ → ℕ
@@ -16,11 +17,6 @@ decimalIn (suc most) n = cond (ltb n 10) (digit n ∷ []) (decimalIn most (n / 1
 -- and no number has more than one digit more than itself
 abbrev pub decimal : ℕ → List ℕ
 decimal n = decimalIn (suc n) n
-
--- the texts of each of a list, one after another
-unfoldable pub each : (ℕ → List ℕ) → List ℕ → List ℕ
-each text [] = []
-each text (x ∷ xs) = text x ++ each text xs
 
 -- numbers, each after a space
 abbrev pub afterSpace : ℕ → List ℕ

@@ -1,6 +1,4 @@
--- What the contracts of text in lent buffers cite.
-pub mod Added
+-- What the contracts of numbers as text cite.
 pub mod Digits
-pub mod Laws
 pub mod Numbers
 pub mod Words

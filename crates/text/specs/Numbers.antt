@@ -7,8 +7,9 @@ use native.Mathlib.Omega.{arith}
 use lib.ListN.{take}
 use borrow.Author.Tests.{lt-ltb, le-ltb}
 use Rattle.io.specs.Digits.{digits, glyph, Fewest}
-use Rattle.text.specs.Added.{Adds}
-use Rattle.text.specs.Digits.{digit, decimalIn, decimal}
+use Rattle.adding.specs.Added.{Adds}
+use Rattle.adding.specs.Laws.{adds-both}
+use Rattle.text.specs.Digits.{digit, decimalIn, decimal, twoDigits}
 
 same-digit : (d : ℕ) → d < 10 → glyph d ≡ digit d
 unfolding digit
@@ -58,3 +59,13 @@ pub adds-number
     → Adds (take k ds) before at after r
     → Adds (decimal n) before at after r
 adds-number n k ds before after at r f e adds = rw (e ∙ fewest-digits (suc n) k n (few-digits n k f) f) at adds
+
+-- two digits, as they were made
+pub adds-two
+    : (b high low : ℕ) {before between after : List ℕ} {at n r : ℕ}
+    → high ≡ digit (b / 16)
+    → low ≡ digit (b % 16)
+    → Adds (high ∷ []) before at between n
+    → Adds (low ∷ []) between n after r
+    → Adds (twoDigits b) before at after r
+adds-two b high low h l first second = rw (← h, ← l) (adds-both first second)

@@ -1,13 +1,13 @@
 // Text in lent buffers: bytes, decimal and hexadecimal numbers put behind the text so far; and, from the crates below, parts of slices, standard output
 // from a buffer and standard input into one.
-mod adding;
+mod numerals;
 
 pub use adding::put;
 pub use adding::put_byte;
-pub use adding::put_hex;
-pub use adding::put_number;
-pub use adding::put_numbers;
-pub use adding::put_shorts;
+pub use numerals::put_hex;
+pub use numerals::put_number;
+pub use numerals::put_numbers;
+pub use numerals::put_shorts;
 pub use parts::first;
 pub use parts::part;
 pub use parts::within;

@@ -6,9 +6,9 @@ use native.Mathlib.Numerals.{add-one}
 use native.Mathlib.Omega.{arith}
 use lib.ListN.{length, getD, take, drop, List·getD-eq-default}
 use borrow.Author.Tests.{ne-eqb, lt-ltb, le-ltb}
-use Rattle.text.specs.Added.{Adds}
+use Rattle.adding.specs.Added.{Adds}
 use Rattle.text.specs.Digits.{decimal}
-use Rattle.text.specs.Laws.{adds-both, adds-nothing}
+use Rattle.adding.specs.Laws.{adds-both, adds-nothing}
 use Rattle.names.specs.declared.Word.{Word}
 use Rattle.words.specs.Filled.{magnitude, decimals, unitsText, signText, degreesText, piece, takes, taken, filledTo, filled}
 use Rattle.names.specs.Names.{names, wordText}

@@ -2,7 +2,7 @@
 ghost use Prim.Native.Nat.{_+_, _%_, _<_};
 ghost use mathlib.Core.Path.{_≡_};
 ghost use lib.ListN.{getD};
-ghost use Rattle.text.specs.Added.{Adds};
+ghost use Rattle.adding.specs.Added.{Adds};
 ghost use Rattle.words.specs.Filled.{decimals as Filled·decimals, magnitude as Filled·magnitude, signText, degreesText, piece, takes as Filled·takes, filled};
 ghost use Rattle.names.specs.Names.{wordText};
 use names::Word;

@@ -1,7 +1,7 @@
 -- `command_words::answer_of` meets its contract, for each command.
 use Rattle.command_words.proofs.Ways.{is-answer}
 use Rattle.command_words.specs.Commands.{commandText}
-use Rattle.text.specs.Digits.{each}
+use Rattle.adding.specs.Added.{each}
 use borrow.Author.Needs.{needs}
 use Rattle.command_words.proofs.answer_of.Statement.{statement}
 use Rattle.command_words.proofs.answer_of.Tie as tie

@@ -1,5 +1,5 @@
 -- `dump::put_idle` meets its contract, by the line's definition.
-use Rattle.text.specs.Laws.{adds-both}
+use Rattle.adding.specs.Laws.{adds-both}
 use Rattle.dump.specs.Dumps.{uploadLine}
 use borrow.Author.Needs.{needs}
 use Rattle.dump.proofs.put_idle.Statement.{statement}

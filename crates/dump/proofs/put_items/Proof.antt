@@ -1,8 +1,8 @@
 -- `dump::put_items` meets its contract. The loop's invariant: the lines of the first n items are added.
 use Prim.Native.Nat.{_-_, _≤_}
 use borrow.Author.Needs.{needs}
-use Rattle.text.specs.Added.{Adds}
-use Rattle.text.specs.Laws.{adds-nothing}
+use Rattle.adding.specs.Added.{Adds}
+use Rattle.adding.specs.Laws.{adds-nothing}
 use Rattle.dump.specs.Dumps.{itemLines}
 use Rattle.dump.proofs.Ways.{items-more, all-items}
 use Rattle.dump.proofs.put_items.Statement.{statement}

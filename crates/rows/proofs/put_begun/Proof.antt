@@ -1,5 +1,5 @@
 -- `rows::put_begun` meets its contract: the letter, then the numbers.
-use Rattle.text.specs.Laws.{adds-after}
+use Rattle.adding.specs.Laws.{adds-after}
 use borrow.Author.Needs.{needs}
 use Rattle.rows.proofs.put_begun.Statement.{statement}
 use Rattle.rows.proofs.put_begun.Tie as tie

@@ -1,5 +1,5 @@
 -- `rows::put_row` meets its contract: the numbers, then the line's end.
-use Rattle.text.specs.Laws.{adds-both}
+use Rattle.adding.specs.Laws.{adds-both}
 use borrow.Author.Needs.{needs}
 use Rattle.rows.proofs.put_row.Statement.{statement}
 use Rattle.rows.proofs.put_row.Tie as tie

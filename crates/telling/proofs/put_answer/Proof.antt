@@ -1,5 +1,5 @@
 -- `telling::put_answer` meets its contract: the line's pattern, then its plan number.
-use Rattle.text.specs.Laws.{adds-both}
+use Rattle.adding.specs.Laws.{adds-both}
 use Rattle.telling.specs.Parts.{lineText}
 use borrow.Author.Needs.{needs}
 use Rattle.telling.proofs.put_answer.Statement.{statement}

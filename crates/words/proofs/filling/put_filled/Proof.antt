@@ -4,8 +4,8 @@ use mathlib.Core.Path.{_≡_, refl}
 use native.Mathlib.Omega.{arith}
 use lib.ListN.{length}
 use borrow.Author.Needs.{needs}
-use Rattle.text.specs.Added.{Adds}
-use Rattle.text.specs.Laws.{adds-nothing}
+use Rattle.adding.specs.Added.{Adds}
+use Rattle.adding.specs.Laws.{adds-nothing}
 use Rattle.words.specs.Filled.{taken, filledTo}
 use Rattle.names.specs.Names.{wordText}
 use Rattle.words.proofs.Ways.{filled-more, all-filled}

@@ -1,13 +1,13 @@
--- `text::adding::put_shorts` meets its contract. The loop's invariant: the first i are added.
+-- `text::numerals::put_shorts` meets its contract. The loop's invariant: the first i are added.
 use Prim.Native.Nat.{_-_, _≤_}
 use native.Mathlib.Omega.{arith}
 use lib.ListN.{length, take}
 use borrow.Author.Needs.{needs}
-use Rattle.text.specs.Added.{Adds}
-use Rattle.text.specs.Digits.{each, afterSpace, spaced}
-use Rattle.text.specs.Laws.{adds-nothing, put-each-as, whole-list}
-use Rattle.text.proofs.adding.put_shorts.Statement.{statement}
-use Rattle.text.proofs.adding.put_shorts.Tie as tie
+use Rattle.adding.specs.Added.{Adds, each}
+use Rattle.text.specs.Digits.{afterSpace, spaced}
+use Rattle.adding.specs.Laws.{adds-nothing, put-each-as, whole-list}
+use Rattle.text.proofs.numerals.put_shorts.Statement.{statement}
+use Rattle.text.proofs.numerals.put_shorts.Tie as tie
 
 abbrev Inv-loop : tie.InvT-loop
 Inv-loop out₀ at list end₀ i₀ out end i = (i ≤ length list) × Adds (spaced (take i list)) out₀ at out end

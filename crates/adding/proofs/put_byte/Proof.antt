@@ -1,10 +1,10 @@
--- `text::adding::put_byte` meets its contract: the byte is kept where there is room.
+-- `adding::put_byte` meets its contract: the byte is kept where there is room.
 use native.Mathlib.Omega.{arith}
 use denote.Ref.{now}
 use borrow.Author.Needs.{needs}
-use Rattle.text.specs.Laws.{adds-byte, adds-full}
-use Rattle.text.proofs.adding.put_byte.Statement.{statement}
-use Rattle.text.proofs.adding.put_byte.Tie as tie
+use Rattle.adding.specs.Laws.{adds-byte, adds-full}
+use Rattle.adding.proofs.put_byte.Statement.{statement}
+use Rattle.adding.proofs.put_byte.Tie as tie
 
 slice-write-out : tie.Need-slice-write-out
 slice-write-out c = search needs

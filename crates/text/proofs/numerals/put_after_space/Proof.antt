@@ -1,8 +1,8 @@
--- `text::adding::put_after_space` meets its contract: the space, then the number.
-use Rattle.text.specs.Laws.{adds-after}
+-- `text::numerals::put_after_space` meets its contract: the space, then the number.
+use Rattle.adding.specs.Laws.{adds-after}
 use borrow.Author.Needs.{needs}
-use Rattle.text.proofs.adding.put_after_space.Statement.{statement}
-use Rattle.text.proofs.adding.put_after_space.Tie as tie
+use Rattle.text.proofs.numerals.put_after_space.Statement.{statement}
+use Rattle.text.proofs.numerals.put_after_space.Tie as tie
 
 put-byte-requires : tie.Need-put-byte-requires
 put-byte-requires c κs = search needs

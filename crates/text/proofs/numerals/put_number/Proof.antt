@@ -1,8 +1,8 @@
--- `text::adding::put_number` meets its contract: the fewest digits that hold the number are its text.
+-- `text::numerals::put_number` meets its contract: the fewest digits that hold the number are its text.
 use Rattle.text.specs.Numbers.{adds-number}
 use borrow.Author.Needs.{needs}
-use Rattle.text.proofs.adding.put_number.Statement.{statement}
-use Rattle.text.proofs.adding.put_number.Tie as tie
+use Rattle.text.proofs.numerals.put_number.Statement.{statement}
+use Rattle.text.proofs.numerals.put_number.Tie as tie
 
 decimal-requires : tie.Need-decimal-requires
 decimal-requires c κs = search needs

@@ -1,8 +1,8 @@
--- `text::adding::put_two_digits` meets its contract: one digit, then the other.
-use Rattle.text.specs.Laws.{adds-two}
+-- `text::numerals::put_two_digits` meets its contract: one digit, then the other.
+use Rattle.text.specs.Numbers.{adds-two}
 use borrow.Author.Needs.{needs}
-use Rattle.text.proofs.adding.put_two_digits.Statement.{statement}
-use Rattle.text.proofs.adding.put_two_digits.Tie as tie
+use Rattle.text.proofs.numerals.put_two_digits.Statement.{statement}
+use Rattle.text.proofs.numerals.put_two_digits.Tie as tie
 
 digit-requires : tie.Need-digit-requires
 digit-requires c κs = search needs

@@ -1,13 +1,13 @@
--- `text::adding::put_hex` meets its contract. The loop's invariant: the first i are added.
+-- `text::numerals::put_hex` meets its contract. The loop's invariant: the first i are added.
 use native.Mathlib.Omega.{arith}
 use Prim.Native.Nat.{_-_, _≤_}
 use lib.ListN.{length, take}
 use borrow.Author.Needs.{needs}
-use Rattle.text.specs.Added.{Adds}
-use Rattle.text.specs.Digits.{each, twoDigits, hex}
-use Rattle.text.specs.Laws.{adds-nothing, put-each-more, whole-list}
-use Rattle.text.proofs.adding.put_hex.Statement.{statement}
-use Rattle.text.proofs.adding.put_hex.Tie as tie
+use Rattle.adding.specs.Added.{Adds, each}
+use Rattle.text.specs.Digits.{twoDigits, hex}
+use Rattle.adding.specs.Laws.{adds-nothing, put-each-more, whole-list}
+use Rattle.text.proofs.numerals.put_hex.Statement.{statement}
+use Rattle.text.proofs.numerals.put_hex.Tie as tie
 
 abbrev Inv-loop : tie.InvT-loop
 Inv-loop out₀ at bytes end₀ i₀ out end i = (i ≤ length bytes) × Adds (hex (take i bytes)) out₀ at out end

@@ -1,12 +1,12 @@
--- `text::adding::put` meets its contract. The loop's invariant: the first i bytes are added.
+-- `adding::put` meets its contract. The loop's invariant: the first i bytes are added.
 use native.Mathlib.Omega.{arith}
 use Prim.Native.Nat.{_-_, _≤_}
 use lib.ListN.{length, take}
 use borrow.Author.Needs.{needs}
-use Rattle.text.specs.Added.{Adds}
-use Rattle.text.specs.Laws.{adds-nothing, put-more, whole-list}
-use Rattle.text.proofs.adding.put.Statement.{statement}
-use Rattle.text.proofs.adding.put.Tie as tie
+use Rattle.adding.specs.Added.{Adds}
+use Rattle.adding.specs.Laws.{adds-nothing, put-more, whole-list}
+use Rattle.adding.proofs.put.Statement.{statement}
+use Rattle.adding.proofs.put.Tie as tie
 
 abbrev Inv-loop : tie.InvT-loop
 Inv-loop out₀ at more end₀ i₀ out end i = (i ≤ length more) × Adds (take i more) out₀ at out end

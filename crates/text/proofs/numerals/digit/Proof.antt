@@ -1,9 +1,9 @@
--- `text::adding::digit` meets its contract, by its test.
+-- `text::numerals::digit` meets its contract, by its test.
 use borrow.Author.Needs.{needs}
 use borrow.Author.Tests.{lt-ltb, le-ltb}
 use Rattle.text.specs.Digits.{digit}
-use Rattle.text.proofs.adding.digit.Statement.{statement}
-use Rattle.text.proofs.adding.digit.Tie as tie
+use Rattle.text.proofs.numerals.digit.Statement.{statement}
+use Rattle.text.proofs.numerals.digit.Tie as tie
 
 add-result : tie.Need-add-result
 add-result c = search needs

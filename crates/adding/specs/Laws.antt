@@ -1,5 +1,5 @@
 -- Laws of text that is added to.
-use Prim.Native.Nat.{ℕ, zero, suc, _+_, _/_, _%_, _<_, _≤_, min}
+use Prim.Native.Nat.{ℕ, zero, suc, _+_, _<_, _≤_, min}
 use mathlib.Core.Path.{_≡_, refl, ap, sym, _∙_}
 use mathlib.Core.List.{List, [], _∷_, _++_, append-assoc, append-nil}
 use native.Mathlib.Numerals.{add-one}
@@ -7,8 +7,7 @@ use native.Mathlib.Omega.{arith}
 use lib.ListN.{length, take, set, getD, length-take, length-append, length-set}
 use lib.Seq.{take-all, take-suc, take-length, take-append-seam, take-suc-set, length-take-le}
 use Rattle.parts.specs.Laws.{front-again}
-use Rattle.text.specs.Added.{added, Adds}
-use Rattle.text.specs.Digits.{digit, each, twoDigits}
+use Rattle.adding.specs.Added.{added, Adds, each}
 
 take-again : (n : ℕ) (a b : List ℕ) → take n (take n a ++ b) ≡ take n (a ++ b)
 take-again zero a b = refl
@@ -51,16 +50,6 @@ pub adds-full : (more before : List ℕ) (at : ℕ) → length before ≤ at →
 adds-full more before at h =
     let same : added before at more ≡ before = rw (take-all at before h) (take-append-seam before more) in
     record { text = take-length before ∙ sym same; size = ap length (sym same); room = refl }
-
--- two digits, as they were made
-pub adds-two
-    : (b high low : ℕ) {before between after : List ℕ} {at n r : ℕ}
-    → high ≡ digit (b / 16)
-    → low ≡ digit (b % 16)
-    → Adds (high ∷ []) before at between n
-    → Adds (low ∷ []) between n after r
-    → Adds (twoDigits b) before at after r
-adds-two b high low h l first second = rw (← h, ← l) (adds-both first second)
 
 -- loops that add a list from its start: what one element more adds
 

@@ -1,0 +1,3 @@
+-- What the contracts of text in lent buffers cite, and its laws.
+pub mod Added
+pub mod Laws

@@ -1,0 +1,26 @@
+// Text behind the text so far, which ends at a place. Each function answers where the text then ends; past the buffer's end nothing is kept.
+ghost use mathlib.Core.List.{[], _∷_};
+ghost use Rattle.adding.specs.Added.{Adds};
+use parts::within;
+
+pub fn put_byte(out: &mut [u8], at: usize, byte: u8) -> usize
+    ensures { λ r. ⌜ Adds (byte ∷ []) (now (out .entry)) at (now (out .exit)) r ⌝ }
+{
+    if at < out.len() {
+        out[at] = byte;
+        return at + 1;
+    }
+    out.len()
+}
+
+pub fn put(out: &mut [u8], at: usize, more: &[u8]) -> usize
+    ensures { λ r. ⌜ Adds (now (more .entry)) (now (out .entry)) at (now (out .exit)) r ⌝ }
+{
+    let mut end = within(at, out);
+    let mut i = 0;
+    while i < more.len() {
+        end = put_byte(out, end, more[i]);
+        i += 1;
+    }
+    end
+}
