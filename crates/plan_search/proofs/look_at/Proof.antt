@@ -2,7 +2,7 @@
 use Prim.Native.Nat.{ℕ, _<_}
 use native.Mathlib.Omega.{arith}
 use mathlib.Core.Path.{_≡_, refl, sym, ap, _∙_}
-use mathlib.Core.List.{List}
+use mathlib.Core.List.{List, []}
 use mathlib.Core.Bool.{Bool, true, false, not, cond}
 use lib.ListN.{getD}
 use lib.IntN.{pos, negsuc}
@@ -96,7 +96,10 @@ verdict-requires : tie.Need-verdict-requires
 verdict-requires c κs = values-of (c .fetch .ensures)
 
 array-read-runs : tie.Need-array-read-runs
-array-read-runs c = search (room, needs)
+array-read-runs c =
+    let judged = c .before .before in
+    let fetched = judged .before .before in
+    room _ [] _ _ _ _ (fetched .fetch .ensures) _ (judged .before .verdict .ensures) (judged .if1 .left) _ (c .before .is-jump .ensures) (c .if2 .left)
 
 returns : tie.Need-returns
 returns c = search (breaks, needs)

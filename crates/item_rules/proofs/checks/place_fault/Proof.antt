@@ -74,7 +74,10 @@ sub-if2 : tie.Need-sub-if2
 sub-if2 c = search needs
 
 returns-2 : tie.Need-returns-2
-returns-2 c = search (x-fault, needs)
+returns-2 c =
+    let x = c .before in
+    let on = x .before .before .before .before in
+    x-fault _ _ _ (on .before .pre) (on .if1 .left) _ _ (c .if2 .taken)
 
 sub-if3 : tie.Need-sub-if3
 sub-if3 c = search needs
