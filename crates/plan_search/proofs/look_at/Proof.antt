@@ -139,7 +139,7 @@ returns-3 c =
     let judged = jumps .before in
     let fetched = judged .before .before in
     follows _ _ _ _ _ _ (fetched .fetch .ensures) _ (judged .before .verdict .ensures) (judged .if1 .left) _ (jumps .is-jump .ensures)
-    (read .before .before .if2 .left) _ _ _ (read .number1 .ensures) (fetched .before .before .fits .len) (read .before .repeat-of .ensures) (c .jump-look .ensures)
+    (read .before .before .if2 .left) _ _ _ (read .number1 .ensures) (fetched .before .before .fits .len .fits) (read .before .repeat-of .ensures) (c .jump-look .ensures)
 
 pub look-at-spec : {M : Type 1} → statement M
 look-at-spec =

@@ -77,7 +77,7 @@ returns-2 : tie.Need-returns-2
 returns-2 c =
     let x = c .before in
     let on = x .before .before .before .before in
-    x-fault _ _ _ (on .before .pre) (on .if1 .left) _ _ (c .if2 .taken)
+    x-fault _ _ _ (on .before .pre) (on .if1 .left) (search needs) (search needs) (c .if2 .taken)
 
 sub-if3 : tie.Need-sub-if3
 sub-if3 c = search needs
