@@ -1,7 +1,7 @@
 -- The lines of a dump, part by part.
 use Prim.Native.Nat.{ℕ, _+_, _≤_}
-use mathlib.Core.Path.{_≡_}
-use mathlib.Core.Bool.{Bool, true, false, not}
+use mathlib.Core.Path.{_≡_, ap, subst, _∙_}
+use mathlib.Core.Bool.{Bool, true, false, not, cond}
 use mathlib.Core.List.{List, [], _∷_}
 use native.Mathlib.Numerals.{add-one}
 use native.Mathlib.Omega.{arith}
@@ -18,18 +18,10 @@ use Rattle.places.specs.Part.{part}
 use Rattle.places.specs.Places.{offsetOf, itemAt}
 use Rattle.plan.specs.View.{planOf, view}
 use Rattle.adding.specs.Added.{Adds}
-use Rattle.text.specs.Digits.{spaced, hex}
+use Rattle.text.specs.Digits.{digit, decimalIn, each, spaced, hex}
 use Rattle.adding.specs.Laws.{adds-both, adds-after}
 use Rattle.rows.specs.Rows.{begun, row}
 use Rattle.dump.specs.Dumps.{itemLine, itemLines, flag, uploadLine, brought, planLine, kindText, currentLine, stateText, dumpText}
-
-pub flag-set : (b : Bool) → b ≡ true → 1 ≡ flag b
-unfolding flag
-flag-set b e = rw e
-
-pub flag-clear : (b : Bool) → b ≡ false → 0 ≡ flag b
-unfolding flag
-flag-clear b e = rw e
 
 pub brought-none : (u : Upload) → u ≡ Idle → 0 ≡ brought u
 unfolding brought
@@ -70,9 +62,17 @@ module _ (before after : List ℕ) (at r : ℕ) where
   pub as-upload : (kind : ℕ) (u is : Upload) → u ≡ is → Adds (uploadLine kind is) before at after r → Adds (uploadLine kind u) before at after r
   as-upload kind u is e adds = rw e adds
 
-  pub out-of-range : (st : State) (store : Bytes) (ranged : Bool) → ranged ≡ inRange (view st store) → ranged ≡ false → Adds (68 ∷ 32 ∷ 49 ∷ 53 ∷ 10 ∷ []) before at after r → Adds (dumpText st store) before at after r
-  unfolding dumpText
-  out-of-range st store ranged is e adds = rw (← is, e) adds
+  pub out-of-range
+      : (st : State) (store : Bytes) (ranged : Bool) (outcome : ℕ)
+      → ranged ≡ inRange (view st store)
+      → ranged ≡ false
+      → outcome ≡ cond ranged 0 15
+      → Adds (row 68 (outcome ∷ [])) before at after r
+      → Adds (dumpText st store) before at after r
+  unfolding dumpText each decimalIn digit
+  out-of-range st store ranged outcome is e o adds =
+      let fifteen : Adds (row 68 (15 ∷ [])) before at after r = subst (λ (n : ℕ). Adds (row 68 (n ∷ [])) before at after r) (o ∙ ap (λ (b : Bool). cond b 0 15) e) adds in
+      rw (← is, e) fifteen
 
 module _ (before between after : List ℕ) (at i r : ℕ) where
   pub plan-line
@@ -85,9 +85,18 @@ module _ (before between after : List ℕ) (at i r : ℕ) where
   unfolding planLine
   plan-line kind p shown half s h a b = rw (← s, ← h) (adds-both a b)
 
-  pub in-range : (st : State) (store : Bytes) (ranged : Bool) → ranged ≡ inRange (view st store) → ranged ≡ true → Adds (68 ∷ 32 ∷ 48 ∷ 10 ∷ []) before at between i → Adds (stateText st store) between i after r → Adds (dumpText st store) before at after r
-  unfolding dumpText
-  in-range st store ranged is e a b = rw (← is, e) (adds-both a b)
+  pub in-range
+      : (st : State) (store : Bytes) (ranged : Bool) (outcome : ℕ)
+      → ranged ≡ inRange (view st store)
+      → ranged ≡ true
+      → outcome ≡ cond ranged 0 15
+      → Adds (row 68 (outcome ∷ [])) before at between i
+      → Adds (stateText st store) between i after r
+      → Adds (dumpText st store) before at after r
+  unfolding dumpText each decimalIn digit
+  in-range st store ranged outcome is e o a b =
+      let zeroth : Adds (row 68 (0 ∷ [])) before at between i = subst (λ (n : ℕ). Adds (row 68 (n ∷ [])) before at between i) (o ∙ ap (λ (b : Bool). cond b 0 15) e) a in
+      rw (← is, e) (adds-both zeroth b)
 
 module _ (before second third after : List ℕ) (at i j r : ℕ) where
   pub kind-text

@@ -24,7 +24,7 @@ unfoldable pub itemLines : (letter kind : ℕ) (half : Bool) → Bytes → (n : 
 itemLines letter kind half store zero = []
 itemLines letter kind half store (suc n) = itemLines letter kind half store n ++ itemLine letter kind n (itemAt store half kind n)
 
-unfoldable pub flag : Bool → ℕ
+abbrev pub flag : Bool → ℕ
 flag b = cond b 1 0
 
 -- "`u K -` (no upload) or `u K SYSTEM COMPONENT COUNT NEXT START REPEATS`"

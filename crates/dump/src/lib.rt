@@ -1,7 +1,8 @@
 // The lines of a dump: the state, and the items of plans and uploads.
 ghost use mathlib.Core.Path.{_≡_};
+ghost use mathlib.Core.Bool.{cond};
 ghost use Rattle.adding.specs.Added.{Adds};
-ghost use Rattle.dump.specs.Dumps.{itemLine, itemLines, flag as Dumps·flag, brought as Dumps·brought, uploadLine, planLine, kindText, currentLine, stateText, dumpText};
+ghost use Rattle.dump.specs.Dumps.{itemLine, itemLines, brought as Dumps·brought, uploadLine, planLine, kindText, currentLine, stateText, dumpText};
 use limits::FENCE;
 use limits::FLIGHT;
 use limits::ITEM_BYTES;
@@ -46,10 +47,10 @@ fn put_items(
     end
 }
 
-fn flag(b: bool) -> u64
-    ensures { λ r. ⌜ r ≡ Dumps·flag b ⌝ }
+fn either(b: bool, yes: u64, no: u64) -> u64
+    ensures { λ r. ⌜ r ≡ cond b yes no ⌝ }
 {
-    if b { 1 } else { 0 }
+    if b { yes } else { no }
 }
 
 fn put_run(out: &mut [u8], at: usize, kind: u8, run: Run) -> usize
@@ -102,7 +103,7 @@ fn put_plan(out: &mut [u8], at: usize, kind: u8, plan: Plan) -> usize
         plan.len as u64,
         plan.number as u64,
         plan::number_shown(plan) as u64,
-        flag(plan.half),
+        either(plan.half, 1, 0),
     ];
     let end = rows::put_row(out, at, b'k', &list);
     let upload = plan.upload;
@@ -129,7 +130,7 @@ fn put_current(
 ) -> usize
     ensures { λ r. ⌜ Adds (currentLine current begun counts) (now (out .entry)) at (now (out .exit)) r ⌝ }
 {
-    let list = [current as u64, flag(begun)];
+    let list = [current as u64, either(begun, 1, 0)];
     let end = rows::put_begun(out, at, b'c', &list);
     let end = text::put_shorts(out, end, &counts);
     text::put_byte(out, end, b'\n')
@@ -150,9 +151,10 @@ fn put_state(out: &mut [u8], at: usize, state: State, store: &[u8]) -> usize
 pub fn put_dump(out: &mut [u8], at: usize, state: State, store: &[u8]) -> usize
     ensures { λ r. ⌜ Adds (dumpText state (now (store .entry))) (now (out .entry)) at (now (out .exit)) r ⌝ }
 {
-    if !ranges::ranged(state) {
-        return text::put(out, at, b"D 15\n");
+    let ranged = ranges::ranged(state);
+    let end = rows::put_row(out, at, b'D', &[either(ranged, 0, 15)]);
+    if !ranged {
+        return end;
     }
-    let end = text::put(out, at, b"D 0\n");
     put_state(out, end, state, store)
 }

@@ -4,8 +4,8 @@ use borrow.Author.Needs.{needs}
 use Rattle.dump.proofs.put_current.Statement.{statement}
 use Rattle.dump.proofs.put_current.Tie as tie
 
-flag-requires : tie.Need-flag-requires
-flag-requires c κs = search needs
+either-requires : tie.Need-either-requires
+either-requires c κs = search needs
 
 slice-aggregate-put-begun : tie.Need-slice-aggregate-put-begun
 slice-aggregate-put-begun c = search needs
@@ -32,7 +32,7 @@ pub put-current-spec : {M : Type 1} → statement M
 put-current-spec =
     tie.close
     (tie.spec
-    flag-requires
+    either-requires
     slice-aggregate-put-begun
     put-begun-requires
     slice-aggregate-put-shorts

@@ -16,8 +16,8 @@ number-shown-requires c κs = search needs
 cast-t12 : tie.Need-cast-t12
 cast-t12 c = search needs
 
-flag-requires : tie.Need-flag-requires
-flag-requires c κs = search needs
+either-requires : tie.Need-either-requires
+either-requires c κs = search needs
 
 slice-aggregate-put-row : tie.Need-slice-aggregate-put-row
 slice-aggregate-put-row c = search needs
@@ -37,7 +37,7 @@ returns c =
     let r = u .before .before .before .before in
     let f = r .before .before .before in
     let a = f .before .before .before .before .before .args in
-    plan-line _ _ _ _ _ _ _ (a .plan) (f .before .number-shown .result) (f .flag .result) (f .before .number-shown .ensures) (f .flag .ensures) (r .put-row .ensures) (u .put-upload .ensures)
+    plan-line _ _ _ _ _ _ _ (a .plan) (f .before .number-shown .result) (f .either .result) (f .before .number-shown .ensures) (f .either .ensures) (r .put-row .ensures) (u .put-upload .ensures)
 
 pub put-plan-spec : {M : Type 1} → statement M
 put-plan-spec =
@@ -47,7 +47,7 @@ put-plan-spec =
     cast-t10
     number-shown-requires
     cast-t12
-    flag-requires
+    either-requires
     slice-aggregate-put-row
     put-row-requires
     put-upload-requires

@@ -56,7 +56,9 @@ enum-told : tie.Need-enum-told
 enum-told c = search needs
 
 returns : tie.Need-returns
-returns c = search (in-kind, needs)
+returns c =
+    let listed = c .before .before .before .before in
+    in-kind _ _ _ _ _ _ (listed .before .before .row-of .ensures) _ (listed .listing .given .1) _ (c .before .if1 .taken) (c .row-fault .ensures)
 
 returns-2 : tie.Need-returns-2
 returns-2 c = search (of-another, needs)

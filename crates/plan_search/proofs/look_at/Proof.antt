@@ -2,7 +2,7 @@
 use Prim.Native.Nat.{ℕ, _<_}
 use native.Mathlib.Omega.{arith}
 use mathlib.Core.Path.{_≡_, refl, sym, ap, _∙_}
-use mathlib.Core.List.{List}
+use mathlib.Core.List.{List, []}
 use mathlib.Core.Bool.{Bool, true, false, not, cond}
 use lib.ListN.{getD}
 use lib.IntN.{pos, negsuc}
@@ -96,10 +96,13 @@ verdict-requires : tie.Need-verdict-requires
 verdict-requires c κs = values-of (c .fetch .ensures)
 
 array-read-runs : tie.Need-array-read-runs
-array-read-runs c = search (room, needs)
+array-read-runs c =
+    let judged = c .before .before in
+    let fetched = judged .before .before in
+    room _ [] _ _ _ _ (fetched .fetch .ensures) _ (judged .before .verdict .ensures) (judged .if1 .left) _ (c .before .is-jump .ensures) (c .if2 .left)
 
 returns : tie.Need-returns
-returns c = search (breaks, needs)
+returns c = breaks _ _ _ _ _ _ (c .before .before .fetch .ensures) _ (c .before .verdict .ensures) (c .if1 .taken)
 
 is-jump-requires : tie.Need-is-jump-requires
 is-jump-requires c κs = search needs
@@ -108,7 +111,11 @@ command-of-requires : tie.Need-command-of-requires
 command-of-requires c κs = (values-of (c .before .before .before .before .fetch .ensures), search (servo-fits, needs))
 
 returns-2 : tie.Need-returns-2
-returns-2 c = search (stands, needs)
+returns-2 c =
+    let jumps = c .before .before in
+    let judged = jumps .before in
+    stands _ _ _ _ _ _ (judged .before .before .fetch .ensures) _ (judged .before .verdict .ensures) (judged .if1 .left) _ (jumps .is-jump .ensures) _
+    (c .before .if2 .taken) (c .command-of .ensures)
 
 mul-runs : tie.Need-mul-runs
 mul-runs c = search needs
@@ -126,7 +133,13 @@ jump-look-requires : tie.Need-jump-look-requires
 jump-look-requires c κs = search needs
 
 returns-3 : tie.Need-returns-3
-returns-3 c = search (follows, needs)
+returns-3 c =
+    let read = c .before in
+    let jumps = read .before .before .before in
+    let judged = jumps .before in
+    let fetched = judged .before .before in
+    follows _ _ _ _ _ _ (fetched .fetch .ensures) _ (judged .before .verdict .ensures) (judged .if1 .left) _ (jumps .is-jump .ensures)
+    (read .before .before .if2 .left) _ _ _ (read .number1 .ensures) (fetched .before .before .fits .len .fits) (read .before .repeat-of .ensures) (c .jump-look .ensures)
 
 pub look-at-spec : {M : Type 1} → statement M
 look-at-spec =

@@ -30,7 +30,7 @@ returns : tie.Need-returns
 returns c clock = search (earlier, needs)
 
 returns-3 : tie.Need-returns-3
-returns-3 c clock = search (passes, needs)
+returns-3 c clock = passes _ _ _ _ _ _ (c .before .before .room-refusal .ensures) (c .before .if1 .left) (c .if2 .left)
 
 returns-2 : tie.Need-returns-2
 returns-2 c clock = search (no-kind, needs)

@@ -57,7 +57,10 @@ same-length-2 : tie.Need-same-length-2
 same-length-2 c = search needs
 
 returns-3 : tie.Need-returns-3
-returns-3 c = search (asked, needs)
+returns-3 c =
+    let w = c .before .before in
+    let ask = w .before .before .before in
+    asked _ _ _ _ _ _ _ _ (ask .before .before .before .pre) (ask .say2 .given .1) (w .write-request-int .ensures)
 
 pub speak-spec : {M : Type 1} → statement M
 speak-spec =

@@ -35,7 +35,6 @@ module _
     (sound : item ≡ itemFor (patterns item))
     (on : not positional ≡ false)
     (x-fits : SFits w32 (item .x))
-    (y-fits : SFits w32 (item .y))
   where
     abbrev Gives : ℕ → Type 0
     Gives f = f ≡ placeFault positional (patterns item) rest
@@ -43,14 +42,14 @@ module _
     x-is : {t : Bool} → beyond (xLimit - 1) (item .x) ≡ t → not (within xLimit (signed (item .«bits_x»))) ≡ t
     x-is h = within-limit (xLimit - 1) (item .x) (signed (item .«bits_x»)) _ x-fits (ap (λ (i : Item). i .x) sound) h
 
-    y-is : {t : Bool} → beyond (yLimit - 1) (item .y) ≡ t → not (within yLimit (signed (item .«bits_y»))) ≡ t
-    y-is h = within-limit (yLimit - 1) (item .y) (signed (item .«bits_y»)) _ y-fits (ap (λ (i : Item). i .y) sound) h
-
     x-fault : beyond (xLimit - 1) (item .x) ≡ true → Gives invalidX
     unfolding placeFault
     x-fault x = rw (not-false positional on, x-is x)
 
-    module _ (x : beyond (xLimit - 1) (item .x) ≡ false) where
+    module _ (y-fits : SFits w32 (item .y)) (x : beyond (xLimit - 1) (item .x) ≡ false) where
+      y-is : {t : Bool} → beyond (yLimit - 1) (item .y) ≡ t → not (within yLimit (signed (item .«bits_y»))) ≡ t
+      y-is h = within-limit (yLimit - 1) (item .y) (signed (item .«bits_y»)) _ y-fits (ap (λ (i : Item). i .y) sound) h
+
       y-fault : beyond (yLimit - 1) (item .y) ≡ true → Gives invalidY
       unfolding placeFault
       y-fault y = rw (not-false positional on, x-is x, y-is y)
@@ -74,7 +73,9 @@ sub-if2 : tie.Need-sub-if2
 sub-if2 c = search needs
 
 returns-2 : tie.Need-returns-2
-returns-2 c = search (x-fault, needs)
+returns-2 c =
+    let on = c .before .before .before .before .before in
+    x-fault _ _ _ (on .before .pre) (on .if1 .left) (search needs) (c .if2 .taken)
 
 sub-if3 : tie.Need-sub-if3
 sub-if3 c = search needs

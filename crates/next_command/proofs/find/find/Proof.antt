@@ -61,6 +61,11 @@ followed store half len runs n met meets j target up em =
     subst (λ (size : ℕ). Followed size runs j target up) (length-items store half flight len)
     (follows-known (length items) runs (drop n items) n (jumpsAmong (take n items)) (sym meets ∙ em))
 
+-- the search follows as many jumps as the loop begins with
+begins : (store : Bytes) (half : Bool) (len : ℕ) (runs : List ℕ) (n left : ℕ) → left ≡ maxFollowed
+    → rules.search maxFollowed (itemsIn store half flight len) runs n ≡ rules.search left (itemsIn store half flight len) runs n
+begins store half len runs n left e = ap (λ (k : ℕ). rules.search k (itemsIn store half flight len) runs n) (sym e)
+
 abbrev Inv-loop : tie.InvT-loop
 Inv-loop store half len from runs₀ n₀ left₀ runs n left =
     (n ≤ sizeOf flight) × (rules.search maxFollowed (itemsIn store half flight len) runs₀ from ≡ rules.search left (itemsIn store half flight len) runs n)
@@ -69,7 +74,7 @@ abbrev μ-loop : tie.MeasureT-loop
 μ-loop store half len from runs₀ n₀ left₀ runs n left = left
 
 loop-holds : tie.Need-loop-holds Inv-loop μ-loop
-loop-holds c = (search needs, refl)
+loop-holds c = (search needs, begins _ _ _ _ _ _ refl)
 
 meet-requires : tie.Need-meet-requires Inv-loop μ-loop
 meet-requires c κs = search needs
@@ -81,7 +86,10 @@ settled-requires : tie.Need-settled-requires Inv-loop μ-loop
 settled-requires c κs = search needs
 
 returns : tie.Need-returns Inv-loop μ-loop
-returns c = search (ends-sooner, needs)
+returns c =
+    let m = c .before .before in
+    let l = m .before .before in
+    ends-sooner _ _ _ _ _ _ _ (l .loop .inv .1) _ (m .meet .ensures) (m .before .loop-test .taken) _ (c .before .match .keys2) (c .settled .ensures)
 
 counted-requires : tie.Need-counted-requires Inv-loop μ-loop
 counted-requires c κs =
@@ -104,8 +112,10 @@ loop-again c =
     let l = c .before .before .before .before .before .before .loop in
     let m = c .before .before .before .before .meet in
     let jump = c .before .before .met .given in
-    let f = followed (a .store .now) (a .half) (a .len) (l .runs) (l .n) (m .result) (m .ensures) (jump .0 .0) (jump .0 .1 .0) (jump .0 .1 .1 .0) (jump .1) in
-    (omega (arith, f .inside), search (goes-on, needs))
+    let f = followed (a .store .now) (a .half) (a .len) (l .runs) (l .n) (m .result) (m .ensures) (jump .0 .0) (jump .0 .1 .0) (jump .0 .1 .1 .0) (jump .1) in (
+      omega (arith, f .inside),
+      goes-on _ _ _ _ _ _ _ (l .inv .1) _ (m .ensures) (c .before .before .before .before .before .loop-test .taken) _ _ _ _ (jump .1) (c .counted .ensures),
+    )
 
 meet-requires-2 : tie.Need-meet-requires-2 Inv-loop μ-loop
 meet-requires-2 c κs = search needs
@@ -114,7 +124,9 @@ settled-requires-2 : tie.Need-settled-requires-2 Inv-loop μ-loop
 settled-requires-2 c κs = search needs
 
 returns-2 : tie.Need-returns-2 Inv-loop μ-loop
-returns-2 c = search (ends-last, needs)
+returns-2 c =
+    let m = c .before in
+    ends-last _ _ _ _ _ _ _ (m .before .before .loop .inv .1) _ (m .meet2 .ensures) _ (m .before .loop-test .left) (c .settled2 .ensures)
 
 pub find-spec : {M : Type 1} → statement M
 find-spec =

@@ -47,7 +47,10 @@ keeps-requires-2 : tie.Need-keeps-requires-2
 keeps-requires-2 c κs = search needs
 
 returns-3 : tie.Need-returns-3
-returns-3 c = search (stops, needs)
+returns-3 c =
+    let all = c .before .before in
+    let late = all .before .before in
+    stops _ _ _ _ (late .before .elapsed .ensures) _ _ (late .if1 .left) (all .if2 .left) (c .before .ended .ensures) (c .keeps3 .ensures)
 
 returns-2 : tie.Need-returns-2
 returns-2 c = search (asks, needs)
