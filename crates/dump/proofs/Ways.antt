@@ -17,8 +17,8 @@ use Rattle.plan.specs.declared.Upload.the-variants.{Idle, Running}
 use Rattle.places.specs.Part.{part}
 use Rattle.places.specs.Places.{offsetOf, itemAt}
 use Rattle.plan.specs.View.{planOf, view}
-use Rattle.adding.specs.Added.{Adds}
-use Rattle.text.specs.Digits.{digit, decimalIn, each, spaced, hex}
+use Rattle.adding.specs.Added.{Adds, each}
+use Rattle.text.specs.Digits.{digit, decimalIn, spaced, hex}
 use Rattle.adding.specs.Laws.{adds-both, adds-after}
 use Rattle.rows.specs.Rows.{begun, row}
 use Rattle.dump.specs.Dumps.{itemLine, itemLines, flag, uploadLine, brought, planLine, kindText, currentLine, stateText, dumpText}
