@@ -1,5 +1,5 @@
 // The lines, one case each, counted from 1.
-use crate::payloads::LONGEST;
+use crate::test_payloads::LONGEST;
 
 pub const READ: usize = 0;
 

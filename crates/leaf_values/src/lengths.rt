@@ -1,7 +1,7 @@
 // Payloads of 1 to 300 bytes, none of them zero, read and written again: missing bytes are zero, bytes past the full length are ignored.
 use crate::again::again;
-use crate::lines::BEFORE;
-use crate::payloads::LONGEST;
+use crate::output::BEFORE;
+use crate::test_payloads::LONGEST;
 
 // Without zeros the first bytes are written as they are, up to the full length, and the buffer past them stays.
 fn agrees(id: u32, p: &[u8], full: usize) -> bool {

@@ -5,8 +5,8 @@ mod again;
 mod cases;
 mod fields_read;
 mod lengths;
-mod lines;
-mod payloads;
+mod output;
+mod test_payloads;
 mod wholes;
 
 const OUTPUT: usize = 8192;
@@ -16,7 +16,7 @@ fn main() {
     let mut at = 0;
     let mut i = 1;
     while i <= cases::COUNT {
-        at = lines::put_line(&mut out, at, cases::case_of(i));
+        at = output::put_line(&mut out, at, cases::case_of(i));
         i += 1;
     }
     text::send(&out, at, usize::MAX);

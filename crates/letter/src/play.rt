@@ -31,6 +31,10 @@ const PATTERNS: [u8; LETTERS] = *b"tablet #/190 says: COUNT, # @ items\n  drone 
     tablet #/190 says: REQUEST_LIST, REQUEST_INT: which @ plan stands?\n  drone answers \
     # ms after the last item taken the drone says to  item #, finished.\n another command,";
 
+fn patterns() -> [u8; LETTERS] {
+    PATTERNS
+}
+
 // A part of the patterns, and the number that is told.
 struct Part {
     from: usize,
@@ -39,7 +43,7 @@ struct Part {
 }
 
 fn put_told(out: &mut [u8; OUTPUT], at: usize, t: Part, more: u64, kind: u8) -> usize {
-    let all = PATTERNS;
+    let all = patterns();
     let pattern = text::part(&all, t.from, t.len);
     words::put_filled(out, at, pattern, &[t.n, more], names::kind_word(kind))
 }

@@ -1,9 +1,9 @@
--- `dump::put_idle` meets its contract, by the line's definition.
+-- `plan_dump::put_idle` meets its contract, by the line's definition.
 use Rattle.adding.specs.Laws.{adds-both}
-use Rattle.dump.specs.Dumps.{uploadLine}
+use Rattle.plan_dump.specs.Plans.{uploadLine}
 use borrow.Author.Needs.{needs}
-use Rattle.dump.proofs.put_idle.Statement.{statement}
-use Rattle.dump.proofs.put_idle.Tie as tie
+use Rattle.plan_dump.proofs.put_idle.Statement.{statement}
+use Rattle.plan_dump.proofs.put_idle.Tie as tie
 
 slice-aggregate-put-begun : tie.Need-slice-aggregate-put-begun
 slice-aggregate-put-begun c = search needs

@@ -5,7 +5,7 @@ use crate::cases::Case;
 use crate::fields_read::fields_of;
 use crate::fields_read::pair;
 use crate::lengths::agreeing;
-use crate::payloads::payloads;
+use crate::test_payloads::payloads;
 use crate::wholes::verdict;
 
 // What a buffer holds before it is written to.

@@ -1,8 +1,8 @@
--- `leaf_values::payloads::counted` meets its contract: `i` stays at most 300.
+-- `leaf_values::test_payloads::counted` meets its contract: `i` stays at most 300.
 use Prim.Native.Nat.{_-_, _≤_}
 use borrow.Author.Needs.{needs}
-use Rattle.leaf_values.proofs.payloads.counted.Statement.{statement}
-use Rattle.leaf_values.proofs.payloads.counted.Tie as tie
+use Rattle.leaf_values.proofs.test_payloads.counted.Statement.{statement}
+use Rattle.leaf_values.proofs.test_payloads.counted.Tie as tie
 
 abbrev Inv-loop : tie.InvT-loop
 Inv-loop p₀ i₀ p i = i ≤ 300

@@ -1,8 +1,8 @@
--- `dump::put_plan` meets its contract: the plan's line, then the upload's.
-use Rattle.dump.proofs.Ways.{plan-line}
+-- `plan_dump::put_plan` meets its contract: the plan's line, then the upload's.
+use Rattle.plan_dump.proofs.Ways.{plan-line}
 use borrow.Author.Needs.{needs}
-use Rattle.dump.proofs.put_plan.Statement.{statement}
-use Rattle.dump.proofs.put_plan.Tie as tie
+use Rattle.plan_dump.proofs.put_plan.Statement.{statement}
+use Rattle.plan_dump.proofs.put_plan.Tie as tie
 
 cast-t9 : tie.Need-cast-t9
 cast-t9 c = search needs

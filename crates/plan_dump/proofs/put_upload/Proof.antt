@@ -1,8 +1,8 @@
--- `dump::put_upload` meets its contract, with and without an upload.
-use Rattle.dump.proofs.Ways.{as-upload}
+-- `plan_dump::put_upload` meets its contract, with and without an upload.
+use Rattle.plan_dump.proofs.Ways.{as-upload}
 use borrow.Author.Needs.{needs}
-use Rattle.dump.proofs.put_upload.Statement.{statement}
-use Rattle.dump.proofs.put_upload.Tie as tie
+use Rattle.plan_dump.proofs.put_upload.Statement.{statement}
+use Rattle.plan_dump.proofs.put_upload.Tie as tie
 
 enum-told : tie.Need-enum-told
 enum-told c = search needs

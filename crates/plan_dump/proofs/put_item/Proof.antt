@@ -1,8 +1,8 @@
--- `dump::put_item` meets its contract: the parts of the line in their order.
-use Rattle.dump.proofs.Ways.{item-line}
+-- `plan_dump::put_item` meets its contract: the parts of the line in their order.
+use Rattle.plan_dump.proofs.Ways.{item-line}
 use borrow.Author.Needs.{needs}
-use Rattle.dump.proofs.put_item.Statement.{statement}
-use Rattle.dump.proofs.put_item.Tie as tie
+use Rattle.plan_dump.proofs.put_item.Statement.{statement}
+use Rattle.plan_dump.proofs.put_item.Tie as tie
 
 slice-aggregate-put-begun : tie.Need-slice-aggregate-put-begun
 slice-aggregate-put-begun c = search needs

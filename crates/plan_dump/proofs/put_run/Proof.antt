@@ -1,8 +1,8 @@
--- `dump::put_run` meets its contract, by the line's definition.
-use Rattle.dump.specs.Dumps.{uploadLine}
+-- `plan_dump::put_run` meets its contract, by the line's definition.
+use Rattle.plan_dump.specs.Plans.{uploadLine}
 use borrow.Author.Needs.{needs}
-use Rattle.dump.proofs.put_run.Statement.{statement}
-use Rattle.dump.proofs.put_run.Tie as tie
+use Rattle.plan_dump.proofs.put_run.Statement.{statement}
+use Rattle.plan_dump.proofs.put_run.Tie as tie
 
 cast-t7 : tie.Need-cast-t7
 cast-t7 c = search needs

@@ -1,0 +1,2 @@
+-- The lines of one kind in a dump.
+pub mod Plans

@@ -1,0 +1,117 @@
+// The lines of one kind in a dump: its plan, its upload, and the items of both.
+ghost use mathlib.Core.Path.{_≡_};
+ghost use mathlib.Core.Bool.{cond};
+ghost use Rattle.adding.specs.Added.{Adds};
+ghost use Rattle.plan_dump.specs.Plans.{itemLine, itemLines, brought as Plans·brought, uploadLine, planLine, kindText};
+use limits::ITEM_BYTES;
+use plan::Plan;
+use plan::Run;
+use plan::Upload;
+
+// The line of the item with a number: its bytes.
+fn put_item(out: &mut [u8], at: usize, letter: u8, kind: u8, n: u16, bytes: &[u8]) -> usize
+    ensures { λ r. ⌜ Adds (itemLine letter kind n (now (bytes .entry))) (now (out .entry)) at (now (out .exit)) r ⌝ }
+{
+    let list = [kind as u64, n as u64];
+    let end = rows::put_begun(out, at, letter, &list);
+    let end = text::put_byte(out, end, b' ');
+    let end = text::put_hex(out, end, bytes);
+    text::put_byte(out, end, b'\n')
+}
+
+// The items of a kind in a half, up to a number.
+fn put_items(
+    out: &mut [u8],
+    at: usize,
+    letter: u8,
+    kind: u8,
+    half: bool,
+    count: u16,
+    store: &[u8],
+) -> usize
+    ensures { λ r. ⌜ Adds (itemLines letter kind half (now (store .entry)) count) (now (out .entry)) at (now (out .exit)) r ⌝ }
+{
+    let mut end = text::within(at, out);
+    let mut n: u16 = 0;
+    while n < count {
+        let first = places::place_at(kind, half, n);
+        let bytes = text::part(store, first, ITEM_BYTES);
+        end = put_item(out, end, letter, kind, n, bytes);
+        n += 1;
+    }
+    end
+}
+
+// One number or another.
+pub fn either(b: bool, yes: u64, no: u64) -> u64
+    ensures { λ r. ⌜ r ≡ cond b yes no ⌝ }
+{
+    if b { yes } else { no }
+}
+
+fn put_run(out: &mut [u8], at: usize, kind: u8, run: Run) -> usize
+    ensures { λ r. ⌜ Adds (uploadLine kind (Upload.Running run)) (now (out .entry)) at (now (out .exit)) r ⌝ }
+{
+    let list = [
+        kind as u64,
+        run.system as u64,
+        run.component as u64,
+        run.count as u64,
+        run.next as u64,
+        run.started as u64,
+        run.repeats as u64,
+    ];
+    rows::put_row(out, at, b'u', &list)
+}
+
+fn put_idle(out: &mut [u8], at: usize, kind: u8) -> usize
+    ensures { λ r. ⌜ Adds (uploadLine kind Upload.Idle) (now (out .entry)) at (now (out .exit)) r ⌝ }
+{
+    let list = [kind as u64];
+    let end = rows::put_begun(out, at, b'u', &list);
+    text::put(out, end, b" -\n")
+}
+
+fn put_upload(out: &mut [u8], at: usize, kind: u8, upload: Upload) -> usize
+    ensures { λ r. ⌜ Adds (uploadLine kind upload) (now (out .entry)) at (now (out .exit)) r ⌝ }
+{
+    match upload {
+        Upload::Idle => put_idle(out, at, kind),
+        Upload::Running(run) => put_run(out, at, kind, run),
+    }
+}
+
+// How many items an upload has brought.
+fn brought(upload: Upload) -> u16
+    ensures { λ r. ⌜ r ≡ Plans·brought upload ⌝ }
+{
+    match upload {
+        Upload::Idle => 0,
+        Upload::Running(run) => run.next,
+    }
+}
+
+fn put_plan(out: &mut [u8], at: usize, kind: u8, plan: Plan) -> usize
+    ensures { λ r. ⌜ Adds (planLine kind plan) (now (out .entry)) at (now (out .exit)) r ⌝ }
+{
+    let list = [
+        kind as u64,
+        plan.len as u64,
+        plan.number as u64,
+        plan::number_shown(plan) as u64,
+        either(plan.half, 1, 0),
+    ];
+    let end = rows::put_row(out, at, b'k', &list);
+    let upload = plan.upload;
+    put_upload(out, end, kind, upload)
+}
+
+// The plan of a kind, its upload, and the items of both.
+pub fn put_kind(out: &mut [u8], at: usize, kind: u8, plan: Plan, store: &[u8]) -> usize
+    ensures { λ r. ⌜ Adds (kindText kind plan (now (store .entry))) (now (out .entry)) at (now (out .exit)) r ⌝ }
+{
+    let upload = plan.upload;
+    let end = put_plan(out, at, kind, plan);
+    let end = put_items(out, end, b'i', kind, plan.half, plan.len, store);
+    put_items(out, end, b'w', kind, !plan.half, brought(upload), store)
+}
