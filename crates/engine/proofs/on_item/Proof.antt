@@ -118,10 +118,7 @@ same-length-4 : tie.Need-same-length-4
 same-length-4 c = search needs
 
 returns-4 : tie.Need-returns-4
-returns-4 c =
-    let kept = c .before .before .before .before in
-    let valid = kept .before .before .before .before in
-    passes _ _ _ _ _ _ _ (valid .before .before .judge .ensures) _ _ _ (valid .judged4 .given .1) (kept .keep .ensures .0) (c .valid-turn .ensures)
+returns-4 c = search (passes, needs)
 
 pub on-item-spec : {M : Type 1} → statement M
 on-item-spec =
