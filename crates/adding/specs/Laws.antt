@@ -27,6 +27,10 @@ adds-both {t} {u} {before} {between} {after} {at} {n} {r} first second =
 pub adds-after : (b : ℕ) (t : List ℕ) {before between after : List ℕ} {at n r : ℕ} → Adds (b ∷ []) before at between n → Adds t between n after r → Adds (b ∷ t) before at after r
 adds-after b t first second = adds-both first second
 
+-- the text of what is equal
+pub adds-as : {A : Type 0} (text : A → List ℕ) (a b : A) {before after : List ℕ} {at r : ℕ} → a ≡ b → Adds (text b) before at after r → Adds (text a) before at after r
+adds-as text a b e adds = rw e adds
+
 -- nothing: the text so far ends at the place, or where the buffer does
 pub adds-nothing : (before : List ℕ) (at r : ℕ) → r ≡ min at (length before) → Adds [] before at before r
 adds-nothing before at r e =

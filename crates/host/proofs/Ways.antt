@@ -1,16 +1,12 @@
 -- What a host sets, for each way that the tests can go.
-use Prim.Native.Nat.{ℕ, _+_, _-_, _%_, _<_, _≤_}
-use mathlib.Core.Path.{_≡_, ap, sym}
+use Prim.Native.Nat.{ℕ, _-_, _%_, _<_}
+use mathlib.Core.Path.{_≡_, sym}
 use mathlib.Core.Bool.{Bool, true, false, true≢false, not, _&&_, cond}
-use mathlib.Core.List.{List, [], _∷_, _++_, append-nil}
-use native.Mathlib.Omega.{arith}
+use mathlib.Core.List.{List, [], _∷_}
 use lib.Dec.{eqb, ltb}
-use lib.ListN.{length, getD, set, take, drop, drop-of-length-le, length-drop}
-use lib.Seq.{take-all, take-length, drop-drop}
-use borrow.Rule.Slice.PartMut.{putMid}
-use borrow.Author.Tests.{ltb-true, le-leb, lt-leb}
+use lib.ListN.{getD, set}
+use borrow.Author.Tests.{ltb-true}
 use Rattle.rules.specs.Limits.{maxJumps}
-use Rattle.rules.specs.Payload.{Bytes}
 use Rattle.plan.specs.declared.Plan.{Plan}
 use Rattle.plan.specs.declared.Run.{Run}
 use Rattle.plan.specs.declared.State.{State}

@@ -1,11 +1,10 @@
 -- A number of the state that a host sets, by its field and index: POKE of a call script. "b4 is the field, b0 the index, a the new value."
-use Prim.Native.Nat.{ℕ, _+_, _%_}
-use mathlib.Core.Bool.{Bool, not, _&&_, cond}
-use mathlib.Core.List.{List, [], _∷_, _++_}
-use lib.Dec.{eqb, ltb, leb}
-use lib.ListN.{length, getD, set, take, drop}
+use Prim.Native.Nat.{ℕ, _%_}
+use mathlib.Core.Bool.{not, _&&_, cond}
+use mathlib.Core.List.{List, [], _∷_}
+use lib.Dec.{eqb, ltb}
+use lib.ListN.{length, getD, set}
 use Rattle.rules.specs.Limits.{maxJumps}
-use Rattle.rules.specs.Payload.{Bytes}
 use Rattle.plan.specs.declared.Plan.{Plan}
 use Rattle.plan.specs.declared.Run.{Run}
 use Rattle.plan.specs.declared.State.{State}

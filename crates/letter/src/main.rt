@@ -7,8 +7,10 @@ mod story;
 use limits::STORE_BYTES;
 use play::OUTPUT;
 
-// The longest story.
+// The longest story, of which no more is read; and more than its text up to a step and the step take.
 const STORY: usize = 4096;
+
+const MOST_TOLD: usize = 5120;
 
 // Where a story goes on, and where the text ends.
 struct Told {
@@ -16,9 +18,9 @@ struct Told {
     at: usize,
 }
 
-// What is told up to the next step, or up to the end.
+// What is told up to the next step, or up to the end; what was told before is sent where the buffer may not hold more.
 fn put_text(story: &[u8], from: usize, out: &mut [u8; OUTPUT], at: usize) -> Told {
-    let mut end = at;
+    let mut end = text::send(out, at, MOST_TOLD);
     let mut i = from;
     while i < story.len() {
         let byte = story[i];

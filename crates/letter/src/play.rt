@@ -9,8 +9,8 @@ use limits::STORE_BYTES;
 use plan::State;
 use plan_search::Command;
 
-// More than a story makes of text.
-pub const OUTPUT: usize = 16384;
+// The buffer of text.
+pub const OUTPUT: usize = 8192;
 
 // The drone is 1/1, and a tablet's component 190.
 const DRONE: u8 = 1;
@@ -93,10 +93,10 @@ fn put_said(out: &mut [u8; OUTPUT], at: usize, s: Step) -> usize {
     put_told(out, at, answers_told(), 0, FLIGHT)
 }
 
-// A timer call for flight after a silence, else a message call.
+// A timer call for the kind after a silence, else a message call.
 fn serve(s: Step, store: &mut [u8; STORE_BYTES], reply: &mut [u8], state: State) -> Served {
     if s.op == story::SILENCE {
-        return service::timer(state, store, reply, FLIGHT, s.clock);
+        return service::timer(state, store, reply, s.kind, s.clock);
     }
     let p = payload_of(s);
     let bytes = p.bytes;

@@ -5,7 +5,7 @@ use fields::byte_at;
 
 pub const MARK: u8 = b'>';
 
-// What a step does: sends a COUNT or an item, lets time pass, asks which plan stands and for its items, or has a command done.
+// What a step does: sends a COUNT or an item, lets time pass, asks which plan stands, or has a command done. Any other letter, as `a`, asks for an item.
 pub const COUNT: u8 = b'c';
 
 pub const ITEM: u8 = b'i';

@@ -2,7 +2,7 @@
 use Prim.Native.Nat.{ℕ, _+_, _<_, _≤_, min}
 use mathlib.Core.Path.{_≡_}
 use mathlib.Core.Bool.{Bool, true, false}
-use mathlib.Core.List.{List, [], _∷_, _++_}
+use mathlib.Core.List.{List, [], _∷_}
 use native.Mathlib.Numerals.{add-one}
 use lib.ListN.{length, getD, take, drop, drop-of-length-le}
 use lib.Seq.{drop-cons}
@@ -42,15 +42,6 @@ module _ (before between after : List ℕ) (at n r : ℕ) where
   unfolding replyText
   some-reply len reply part e is space text = rw (ne-eqb len 0 e, ← is) (adds-after 32 (hex part) space text)
 
-module _ (before after : List ℕ) (at r : ℕ) (clean : Bool) where
-  pub clean-end : clean ≡ true → Adds (10 ∷ []) before at after r → Adds (markedEnd clean) before at after r
-  unfolding markedEnd
-  clean-end e adds = rw e adds
-
-  pub marked-end : clean ≡ false → Adds (32 ∷ 66 ∷ 10 ∷ []) before at after r → Adds (markedEnd clean) before at after r
-  unfolding markedEnd
-  marked-end e adds = rw e adds
-
 pub served-line
     : (letter outcome id len : ℕ) (reply before between third after : List ℕ) (at n m r : ℕ) (clean : Bool)
     → clean ≡ untouched (drop len reply)
@@ -69,9 +60,6 @@ pub done-line
     → Adds (doneLine outcome command) before at after r
 unfolding doneLine
 done-line outcome command before between third after at n m r first second last = adds-both first (adds-both second last)
-
-pub as-next : (before after : List ℕ) (at r : ℕ) (next is : Next) → next ≡ is → Adds (stopText is) before at after r → Adds (stopText next) before at after r
-as-next before after at r next is e adds = rw e adds
 
 pub no-stop : (before : List ℕ) (at r : ℕ) (next is : Next) → next ≡ is → stopText is ≡ [] → r ≡ min at (length before) → Adds (stopText next) before at before r
 no-stop before at r next is e none ends = rw (e, none) (adds-nothing before at r ends)

@@ -2,16 +2,17 @@
 use Prim.Native.Nat.{ℕ}
 use mathlib.Core.Path.{_≡_}
 use borrow.Author.Tests.{ne-eqb}
+use Rattle.rules.specs.Limits.{flight, fence, rally, accepted, invalidSequence, denied, cancelled}
 use Rattle.text.specs.Words.{ascii}
 use Rattle.names.specs.Names.{kindName, resultName, commandName}
 
-pub other-kind : (k : ℕ) → (k ≡ 0 → ⊥) → (k ≡ 1 → ⊥) → (k ≡ 2 → ⊥) → ascii "unknown" ≡ kindName k
+pub other-kind : (k : ℕ) → (k ≡ flight → ⊥) → (k ≡ fence → ⊥) → (k ≡ rally → ⊥) → ascii "unknown" ≡ kindName k
 unfolding kindName
-other-kind k a b c = rw (ne-eqb k 0 a, ne-eqb k 1 b, ne-eqb k 2 c)
+other-kind k a b c = rw (ne-eqb k flight a, ne-eqb k fence b, ne-eqb k rally c)
 
-pub other-result : (r : ℕ) → (r ≡ 0 → ⊥) → (r ≡ 13 → ⊥) → (r ≡ 14 → ⊥) → (r ≡ 15 → ⊥) → ascii "refused" ≡ resultName r
+pub other-result : (r : ℕ) → (r ≡ accepted → ⊥) → (r ≡ invalidSequence → ⊥) → (r ≡ denied → ⊥) → (r ≡ cancelled → ⊥) → ascii "refused" ≡ resultName r
 unfolding resultName
-other-result r a b c d = rw (ne-eqb r 0 a, ne-eqb r 14 c, ne-eqb r 13 b, ne-eqb r 15 d)
+other-result r a b c d = rw (ne-eqb r accepted a, ne-eqb r denied c, ne-eqb r invalidSequence b, ne-eqb r cancelled d)
 
 pub other-command : (n : ℕ) → (n ≡ 16 → ⊥) → (n ≡ 21 → ⊥) → (n ≡ 22 → ⊥) → (n ≡ 5003 → ⊥) → ascii "command" ≡ commandName n
 unfolding commandName

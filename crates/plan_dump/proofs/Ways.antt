@@ -56,10 +56,6 @@ pub all-items
     → Adds (itemLines letter kind half store count) before at after r
 all-items letter kind half store n count before after at r most least adds = let all : count ≡ n = omega arith in rw all adds
 
-module _ (before after : List ℕ) (at r : ℕ) where
-  pub as-upload : (kind : ℕ) (u is : Upload) → u ≡ is → Adds (uploadLine kind is) before at after r → Adds (uploadLine kind u) before at after r
-  as-upload kind u is e adds = rw e adds
-
 module _ (before between after : List ℕ) (at i r : ℕ) where
   pub plan-line
       : (kind : ℕ) (p : Plan) (shown half : ℕ)

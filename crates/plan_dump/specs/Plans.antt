@@ -1,7 +1,7 @@
 -- The lines of a dump that tell a kind's plan and upload, and the items of both.
 use Prim.Native.Nat.{ℕ, zero, suc}
 use mathlib.Core.Bool.{Bool, not, cond}
-use mathlib.Core.List.{List, [], _∷_, _++_}
+use mathlib.Core.List.{[], _∷_, _++_}
 use Rattle.rules.specs.Payload.{Bytes}
 use Rattle.rules.specs.Model.{shownNumber}
 use Rattle.plan.specs.declared.Plan.{Plan}

@@ -10,6 +10,19 @@ use Rattle.script.specs.declared.Record.{Record}
 use Rattle.script.specs.declared.Next.{Next}
 use Rattle.script.specs.declared.Next.the-variants.{Play, End, Cut, Bad}
 
+abbrev pub headerBytes : ℕ
+headerBytes = 24
+
+abbrev pub mostPayload : ℕ
+mostPayload = 300
+
+-- the lengths of the arrays that a script's calls are lent
+abbrev pub storeArray : ℕ
+storeArray = 26880
+
+abbrev pub replyArray : ℕ
+replyArray = 64
+
 unfoldable pub recordIn : Bytes → Record
 recordIn p =
     record {
@@ -32,7 +45,7 @@ pokeFits field index = leb field 9 && ltb index 3 || (eqb field 10 || eqb field 
 
 -- WRITE: up to the end of the store array
 unfoldable pub writeFits : (at len : ℕ) → Bool
-writeFits at len = leb len 300 && leb (at + len) 26880
+writeFits at len = leb len mostPayload && leb (at + len) storeArray
 
 -- MESSAGE 1, TIMER 2, DONE 3, DUMP 4, SNAP 6 and CMP 7; FRESH 5 without a setting; POKE 8; WRITE 9. "len above 300, store above 26,880,
 -- reply above 64 .. the program stops"
@@ -42,17 +55,17 @@ fits r =
     || eqb (r .kind) 5 && eqb (r .b4) 0
     || eqb (r .kind) 8 && pokeFits (r .b4) (r .b0)
     || eqb (r .kind) 9 && writeFits (r .a) (r .len))
-    && leb (r .len) 300
-    && leb (r .store) 26880
-    && leb (r .reply) 64
+    && leb (r .len) mostPayload
+    && leb (r .store) storeArray
+    && leb (r .reply) replyArray
 
 -- "A script .. ends with a record 0; the end of input counts as a record 0"; "A record cut by the end of input: `? cut`"
 unfoldable pub nextIn : Bytes → Next
 nextIn p =
     let r = recordIn p in
     cond (eqb (length p) 0) End
-    (cond (ltb (length p) 24) Cut
+    (cond (ltb (length p) headerBytes) Cut
     (cond (eqb (r .kind) 0) End
     (cond (not (fits r)) (Bad (r .kind))
-    (cond (ltb (length p) (24 + r .len)) Cut
+    (cond (ltb (length p) (headerBytes + r .len)) Cut
     (Play r)))))

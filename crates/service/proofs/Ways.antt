@@ -29,7 +29,6 @@ use Rattle.refine.specs.Turned.{timer-agrees}
 use Rattle.refine.specs.Messages.{message-agrees}
 use Rattle.refine.specs.Serving.{Gives, steps-serve}
 use Rattle.service.specs.Calls.{Serves, servedResult, advanceResult}
-use Rattle.service.specs.declared.Advanced.{Advanced}
 
 -- the ranges, by the test's answer
 ranged-is : (st : State) (s : Bytes) (ranged : Bool) → ranged ≡ inRange (view st s) → ranged ≡ true → inRange (view st s) ≡ true

@@ -3,7 +3,7 @@ ghost use mathlib.Core.Path.{_≡_};
 ghost use mathlib.Core.Bool.{true};
 ghost use Prim.Native.Nat.{_≤_};
 ghost use lib.ListN.{length};
-ghost use Rattle.rules.specs.Limits.{flight, rally, storeBytes, replyBytesMin};
+ghost use Rattle.rules.specs.Limits.{rally, storeBytes, replyBytesMin};
 ghost use Rattle.rules.specs.Payload.{Bytes};
 ghost use Rattle.rules.specs.Messages.{station};
 ghost use Rattle.ranges.specs.Ranges.{stateRanged};

@@ -5,6 +5,7 @@ use mathlib.Core.List.{List, [], _∷_, _++_, append-assoc, append-nil}
 use native.Mathlib.Omega.{arith}
 use lib.ListN.{getD, take, drop}
 use borrow.Author.Tests.{eq-eqb, ne-eqb}
+use Rattle.rules.specs.Layouts.{countId, ackId, requestIntId, itemIntId}
 use Rattle.rules.specs.Messages.{Message, Item, station, count, ack, requestInt, itemInt, decode}
 use Rattle.adding.specs.Added.{Adds}
 use Rattle.text.specs.Words.{ascii}
@@ -70,9 +71,9 @@ module _ (id : ℕ) (p line : List ℕ) where
   pub as-answer : (is : ℕ) (m : Message) → id ≡ is → m ≡ decode is p → answerText is p ≡ messageText (decode is p) → line ≡ messageText m → line ≡ answerText id p
   as-answer is m e reads known same = rw (e, known, ← reads) same
 
-  pub to-nobody : (w : Word) → (id ≡ 44 → ⊥) → (id ≡ 47 → ⊥) → (id ≡ 51 → ⊥) → (id ≡ 73 → ⊥) → line ≡ filling 0 6 (0 ∷ 0 ∷ 0 ∷ 0 ∷ 0 ∷ []) w ++ numberText 0 0 → line ≡ answerText id p
+  pub to-nobody : (w : Word) → (id ≡ countId → ⊥) → (id ≡ ackId → ⊥) → (id ≡ requestIntId → ⊥) → (id ≡ itemIntId → ⊥) → line ≡ filling 0 6 (0 ∷ 0 ∷ 0 ∷ 0 ∷ 0 ∷ []) w ++ numberText 0 0 → line ≡ answerText id p
   unfolding filledTo taken takes piece numberText answerText
-  to-nobody w a b c d same = rw (ne-eqb id 44 a, ne-eqb id 47 b, ne-eqb id 51 c, ne-eqb id 73 d) same
+  to-nobody w a b c d same = rw (ne-eqb id countId a, ne-eqb id ackId b, ne-eqb id requestIntId c, ne-eqb id itemIntId d) same
 
 -- a part, as it is put
 pub part-filled : (part : Part) (pattern all before after : List ℕ) (at r : ℕ) → all ≡ patterns → pattern ≡ take (part .len) (drop (part .from) all) → Adds (filled pattern (part .list) (wordText (part .word))) before at after r → Adds (partText part) before at after r

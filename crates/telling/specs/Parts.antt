@@ -1,5 +1,4 @@
 -- What is told of a message, as parts of one text of patterns and what fills them.
-use Prim.Native.Nat.{ℕ}
 use mathlib.Core.List.{_++_}
 use lib.ListN.{take, drop}
 use Rattle.rules.specs.Payload.{Bytes}

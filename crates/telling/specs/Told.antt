@@ -1,7 +1,7 @@
 -- The drone's answers in words.
 use Prim.Native.Nat.{ℕ}
 use mathlib.Core.Bool.{cond, _||_}
-use mathlib.Core.List.{List, [], _∷_, _++_}
+use mathlib.Core.List.{[], _∷_, _++_}
 use lib.Dec.{eqb}
 use Rattle.rules.specs.Payload.{Bytes}
 use Rattle.rules.specs.Layouts.{countId, ackId, requestIntId, itemIntId}

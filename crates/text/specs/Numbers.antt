@@ -1,5 +1,5 @@
 -- The fewest decimal digits that hold a number are its digits without leading zeros.
-use Prim.Native.Nat.{ℕ, zero, suc, _+_, _-_, _*_, _/_, _%_, _^_, _<_, _≤_}
+use Prim.Native.Nat.{ℕ, zero, suc, _+_, _-_, _/_, _%_, _^_, _<_, _≤_}
 use mathlib.Core.Path.{_≡_, ap, _∙_}
 use mathlib.Core.List.{List, [], _∷_, _++_}
 use native.Mathlib.Nat.{pow-succ', div-lt-iff-lt-mul, le-div-iff-mul-le, mod-eq-of-lt, mod-lt}

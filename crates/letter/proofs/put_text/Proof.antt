@@ -11,6 +11,9 @@ Inv-loop story from out₀ at end₀ i₀ out end i = Unit {0}
 abbrev μ-loop : tie.MeasureT-loop
 μ-loop story from out₀ at end₀ i₀ out end i = length story - i
 
+send-requires : tie.Need-send-requires Inv-loop μ-loop
+send-requires c κs = search needs
+
 loop-holds : tie.Need-loop-holds Inv-loop μ-loop
 loop-holds c = search needs
 
@@ -41,6 +44,7 @@ put-text-spec =
     (tie.spec
     Inv-loop
     μ-loop
+    send-requires
     loop-holds
     shared-slice-read-byte
     add-i

@@ -1,5 +1,6 @@
 -- `lines::put_end` meets its contract, with and without the mark.
-use Rattle.lines.proofs.Ways.{clean-end, marked-end}
+use Rattle.adding.specs.Laws.{adds-as}
+use Rattle.lines.specs.Lines.{markedEnd}
 use borrow.Author.Needs.{needs}
 use Rattle.lines.proofs.put_end.Statement.{statement}
 use Rattle.lines.proofs.put_end.Tie as tie
@@ -11,7 +12,8 @@ same-length : tie.Need-same-length
 same-length c = search needs
 
 returns : tie.Need-returns
-returns c = search (clean-end, needs)
+unfolding markedEnd
+returns c = adds-as markedEnd _ _ (c .before .before .before .before .if1 .taken) (c .before .before .put-byte .ensures)
 
 slice-aggregate-put : tie.Need-slice-aggregate-put
 slice-aggregate-put c = search needs
@@ -23,7 +25,8 @@ same-length-2 : tie.Need-same-length-2
 same-length-2 c = search needs
 
 returns-2 : tie.Need-returns-2
-returns-2 c = search (marked-end, needs)
+unfolding markedEnd
+returns-2 c = adds-as markedEnd _ _ (c .before .before .before .before .before .if1 .left) (c .before .before .put .ensures)
 
 pub put-end-spec : {M : Type 1} → statement M
 put-end-spec =

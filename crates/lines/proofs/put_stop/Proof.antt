@@ -1,5 +1,6 @@
 -- `lines::put_stop` meets its contract, for each case.
-use Rattle.lines.proofs.Ways.{as-next, no-stop}
+use Rattle.adding.specs.Laws.{adds-as}
+use Rattle.lines.proofs.Ways.{no-stop}
 use mathlib.Core.Path.{refl}
 use Rattle.lines.specs.Lines.{stopText}
 use borrow.Author.Needs.{needs}
@@ -44,14 +45,14 @@ same-length c = search needs
 
 returns : tie.Need-returns
 unfolding stopText
-returns c = as-next _ _ _ _ _ _ (c .before .before .before .before .before .enum-told .given .1) (c .before .before .put .ensures)
+returns c = adds-as stopText _ _ (c .before .before .before .before .before .enum-told .given .1) (c .before .before .put .ensures)
 
 same-length-2 : tie.Need-same-length-2
 same-length-2 c = search needs
 
 returns-2 : tie.Need-returns-2
 unfolding stopText
-returns-2 c = as-next _ _ _ _ _ _ (c .before .before .before .before .before .before .next .given .1) (c .before .before .put-row .ensures)
+returns-2 c = adds-as stopText _ _ (c .before .before .before .before .before .before .next .given .1) (c .before .before .put-row .ensures)
 
 same-length-3 : tie.Need-same-length-3
 same-length-3 c = search needs
