@@ -1,4 +1,4 @@
-//! Commands of the reference: play, generate, compare, vectors, faults,
+//! Commands of the reference: play, generate, compare, vectors, letter, faults,
 //! selftest-faults and speed.
 
 use std::collections::HashMap;
@@ -11,8 +11,10 @@ use std::str::FromStr;
 use reference::compare::{compare, find_faults, Verdict};
 use reference::fault::{Fault, FAULTS};
 use reference::generate::{scripts, Script};
+use reference::letter::tell;
 use reference::script::play;
 use reference::speed;
+use reference::story;
 use reference::table;
 use reference::vectors::{misses, Printed, Script as Table};
 
@@ -23,6 +25,7 @@ reference compare --seed N --calls M --console PATH [--fault F] [--out FILE]
                                                         with the program at PATH; FILE gets a script that differs
 reference vectors --table FILE [--console PATH] [--out FILE]
                                                         the table's cases; FILE gets their script
+reference letter --story FILE --console PATH            the story, told by what the program at PATH prints
 reference faults                                        the faults that --fault plants
 reference selftest-faults --seed N --calls M            finds every fault, without another program
 reference speed --calls M [--console PATH]              times both on one script";
@@ -54,6 +57,7 @@ fn run(command: &str, options: &Options) -> Answer {
         "generate" => generate(options),
         "compare" => compare_with(options),
         "vectors" => play_table(options),
+        "letter" => tell_story(options),
         "faults" => list_faults(),
         "selftest-faults" => selftest_faults(options),
         "speed" => measure_speed(options),
@@ -158,6 +162,23 @@ fn play_table(options: &Options) -> Answer {
     misses.iter().take(SHOWN).for_each(|miss| println!("{file}, {miss}"));
     println!("vectors: {} of {cases} cases differ", misses.len());
     Ok(ExitCode::from(DIFFERENT))
+}
+
+fn tell_story(options: &Options) -> Answer {
+    let file = options.text("story").ok_or("--story is missing")?;
+    let console = options.text("console").ok_or("--console is missing")?;
+    let text = fs::read_to_string(file).map_err(|error| format!("{file}: {error}"))?;
+    let parts = story::read(&text).map_err(|error| format!("{file}, {error}"))?;
+    match tell(&parts, Path::new(console)).map_err(failed)? {
+        Ok(told) => {
+            print!("{told}");
+            Ok(ExitCode::SUCCESS)
+        }
+        Err(difference) => {
+            println!("letter: the console and the reference differ: {difference}");
+            Ok(ExitCode::from(DIFFERENT))
+        }
+    }
 }
 
 fn list_faults() -> Answer {

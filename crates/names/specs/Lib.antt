@@ -1,2 +1,0 @@
--- The names of kinds, results and commands.
-pub mod Names

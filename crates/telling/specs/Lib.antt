@@ -1,3 +1,0 @@
--- The drone's answers in words.
-pub mod Parts
-pub mod Told

@@ -1,2 +1,0 @@
--- Messages in words.
-pub mod Filled
