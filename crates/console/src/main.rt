@@ -8,33 +8,12 @@ use text::Unread;
 // The longest record, and the buffer that records are read into.
 const MOST_RECORD: usize = 324;
 
-const INPUT: usize = 16384;
+const INPUT: usize = 4096;
 
 // More than the lines of any record take, a dump of full plans and uploads included, and the buffer of lines.
-const MOST_LINES: usize = 65536;
+const MOST_LINES: usize = 61440;
 
-const OUTPUT: usize = 81920;
-
-// What is unread of the script, and where the text of lines ends.
-struct Ends {
-    unread: Unread,
-    at: usize,
-}
-
-// Reads on where less than a record is unread, and sends the lines where the buffer may not hold the next ones.
-fn exchange(input: &mut [u8], unread: Unread, out: &[u8], at: usize) -> Ends {
-    let unread = text::read_on(input, unread.at, unread.end, MOST_RECORD);
-    let at = text::send(out, at, MOST_LINES);
-    Ends { unread, at }
-}
-
-fn rest(input: &[u8], unread: Unread) -> &[u8] {
-    text::part(
-        input,
-        unread.at,
-        std::num::wrapping_sub_usize(unread.end, unread.at),
-    )
-}
+const OUTPUT: usize = 65536;
 
 // A proved loop has to end, and nothing says that a script does. So the turns are counted down, from a number that no run uses up.
 fn main() {
@@ -49,11 +28,11 @@ fn main() {
     let mut at: usize = 0;
     let mut turns = u64::MAX;
     while 0 < turns {
-        let ends = exchange(input, unread, out, at);
-        unread = ends.unread;
-        let bytes = rest(input, unread);
+        unread = text::read_on(input, unread.at, unread.end, MOST_RECORD);
+        at = text::send(out, at, MOST_LINES);
+        let bytes = text::part(input, unread.at, play::left(unread));
         let next = script::next_record(bytes);
-        at = lines::put_stop(out, ends.at, next);
+        at = lines::put_stop(out, at, next);
         match next {
             Next::Play(r) => {
                 let played = play::record(r, bytes, out, at, &mut store, &mut copy, state);

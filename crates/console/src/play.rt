@@ -69,23 +69,6 @@ fn done(r: Record, out: &mut [u8], at: usize, store: &[u8], state: State) -> Pla
     Played { state, at }
 }
 
-// A call of the service, and its line.
-fn call(
-    r: Record,
-    payload: &[u8],
-    out: &mut [u8],
-    at: usize,
-    store: &mut [u8],
-    state: State,
-) -> Played {
-    let kind = r.kind;
-    match kind {
-        script::MESSAGE => message(r, payload, out, at, store, state),
-        script::TIMER => timer(r, out, at, store, state),
-        _ => done(r, out, at, store, state),
-    }
-}
-
 // What a host does between the calls.
 fn between(
     r: Record,
@@ -113,22 +96,6 @@ fn between(
     }
 }
 
-// The lines of what is shown between the calls.
-fn put_shown(
-    kind: u8,
-    out: &mut [u8],
-    at: usize,
-    store: &[u8; STORE_ARRAY],
-    copy: &[u8; STORE_ARRAY],
-    state: State,
-) -> usize {
-    match kind {
-        script::DUMP => dump::put_dump(out, at, state, store),
-        script::CMP => rows::put_row(out, at, b's', &[check::same(store, copy) as u64]),
-        _ => at,
-    }
-}
-
 // Plays the record that bytes begin with.
 pub fn record(
     r: Record,
@@ -140,12 +107,29 @@ pub fn record(
     state: State,
 ) -> Played {
     let payload = text::part(bytes, HEADER_BYTES, r.len);
-    if r.kind <= script::DONE {
-        return call(r, payload, out, at, store, state);
+    let kind = r.kind;
+    match kind {
+        script::MESSAGE => message(r, payload, out, at, store, state),
+        script::TIMER => timer(r, out, at, store, state),
+        script::DONE => done(r, out, at, store, state),
+        script::DUMP => {
+            let at = dump::put_dump(out, at, state, store);
+            Played { state, at }
+        }
+        script::CMP => {
+            let at = rows::put_row(out, at, b's', &[check::same(store, copy) as u64]);
+            Played { state, at }
+        }
+        _ => {
+            let state = between(r, payload, store, copy, state);
+            Played { state, at }
+        }
     }
-    let at = put_shown(r.kind, out, at, store, copy, state);
-    let state = between(r, payload, store, copy, state);
-    Played { state, at }
+}
+
+// How many bytes are unread.
+pub fn left(unread: Unread) -> usize {
+    std::num::wrapping_sub_usize(unread.end, unread.at)
 }
 
 // What is unread after a record.

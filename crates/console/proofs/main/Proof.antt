@@ -18,49 +18,55 @@ slice-aggregate-out : tie.Need-slice-aggregate-out Inv-loop μ-loop
 slice-aggregate-out c = search needs
 
 fresh-requires : tie.Need-fresh-requires Inv-loop μ-loop
-fresh-requires c κs = search needs
+fresh-requires c κs = tt
 
 loop-holds : tie.Need-loop-holds Inv-loop μ-loop
 loop-holds c = search needs
 
-exchange-requires : tie.Need-exchange-requires Inv-loop μ-loop
-exchange-requires c κs = search needs
+read-on-requires : tie.Need-read-on-requires Inv-loop μ-loop
+read-on-requires c κs = tt
 
-rest-requires : tie.Need-rest-requires Inv-loop μ-loop
-rest-requires c κs = search needs
+send-requires : tie.Need-send-requires Inv-loop μ-loop
+send-requires c κs = tt
+
+left-requires : tie.Need-left-requires Inv-loop μ-loop
+left-requires c κs = tt
+
+part-requires : tie.Need-part-requires Inv-loop μ-loop
+part-requires c κs = tt
 
 next-record-requires : tie.Need-next-record-requires Inv-loop μ-loop
-next-record-requires c κs = search needs
+next-record-requires c κs = tt
 
 put-stop-requires : tie.Need-put-stop-requires Inv-loop μ-loop
-put-stop-requires c κs = search needs
+put-stop-requires c κs = tt
 
 enum-known-next : tie.Need-enum-known-next Inv-loop μ-loop
 enum-known-next c = search needs
 
 record-requires : tie.Need-record-requires Inv-loop μ-loop
-record-requires c κs = search needs
+record-requires c κs = tt
 
 past-requires : tie.Need-past-requires Inv-loop μ-loop
-past-requires c κs = search needs
+past-requires c κs = tt
 
 sub-turns : tie.Need-sub-turns Inv-loop μ-loop
 sub-turns c =
-    let a = c .before .before .before .before .before .before .before .before .before .before .before .before in
+    let a = c .before .before .before .before .before .before .before .before .before .before .before .before .before in
     let t = a .before .before .before .before .before .before .before .before .before .before .before .before .loop-test .taken in
     search needs
 
 loop-less : tie.Need-loop-less Inv-loop μ-loop
 loop-less c =
-    let a = c .before .before .before .before .before .before .before .before .before .before .before .before in
+    let a = c .before .before .before .before .before .before .before .before .before .before .before .before .before in
     let t = a .before .before .before .before .before .before .before .before .before .before .before .before .loop-test .taken in
     search needs
 
 loop-again : tie.Need-loop-again Inv-loop μ-loop
 loop-again c = search needs
 
-send-requires : tie.Need-send-requires Inv-loop μ-loop
-send-requires c κs = search needs
+send-requires-2 : tie.Need-send-requires-2 Inv-loop μ-loop
+send-requires-2 c κs = tt
 
 returns : tie.Need-returns Inv-loop μ-loop
 returns c = search needs
@@ -75,8 +81,10 @@ main-spec =
     slice-aggregate-out
     fresh-requires
     loop-holds
-    exchange-requires
-    rest-requires
+    read-on-requires
+    send-requires
+    left-requires
+    part-requires
     next-record-requires
     put-stop-requires
     enum-known-next
@@ -85,5 +93,5 @@ main-spec =
     sub-turns
     loop-less
     loop-again
-    send-requires
+    send-requires-2
     returns)
