@@ -1,26 +1,19 @@
 // The lines, one case each, counted from 1.
 use crate::test_payloads::LONGEST;
 
-pub const READ: usize = 0;
+// The letters that lines begin with: fields read, bytes written, lengths that agree, a whole number.
+pub const READ: u8 = b'r';
 
-pub const WRITTEN: usize = 4;
+pub const WRITTEN: u8 = b'w';
 
-pub const LENGTHS: usize = 11;
+pub const LENGTHS: u8 = b'l';
 
-pub const WHOLE: usize = 18;
+pub const WHOLE: u8 = b'n';
 
-// The words that lines begin with, each at the place that its constant says.
-const WORDS: [u8; 23] = *b"readwrittenlengthswhole";
-
-pub fn words() -> [u8; 23] {
-    WORDS
-}
-
-// A line's word, and how many letters and numbers it has; a message's id or a float's pattern; the payload as a part of the payloads, or the number meant;
-// and how many bytes are lent for writing.
+// A line's letter, and how many numbers it has; a message's id or a float's pattern; the payload as a part of the payloads, or the number meant; and how
+// many bytes are lent for writing.
 pub struct Case {
-    pub word: usize,
-    pub letters: usize,
+    pub letter: u8,
     pub numbers: usize,
     pub id: u32,
     pub from: usize,
@@ -32,8 +25,7 @@ pub struct Case {
 // A message is read: so many numbers are shown, its id the first.
 fn read(id: u32, from: usize, len: usize, numbers: usize) -> Case {
     Case {
-        word: READ,
-        letters: 4,
+        letter: READ,
         numbers,
         id,
         from,
@@ -46,8 +38,7 @@ fn read(id: u32, from: usize, len: usize, numbers: usize) -> Case {
 // A message is read and written into a buffer of so many bytes.
 fn written(id: u32, from: usize, len: usize, room: usize) -> Case {
     Case {
-        word: WRITTEN,
-        letters: 7,
+        letter: WRITTEN,
         numbers: 2,
         id,
         from,
@@ -60,8 +51,7 @@ fn written(id: u32, from: usize, len: usize, room: usize) -> Case {
 // A message of this full length is read and written in every length.
 fn lengths(id: u32, len: usize) -> Case {
     Case {
-        word: LENGTHS,
-        letters: 7,
+        letter: LENGTHS,
         numbers: 2,
         id,
         from: 0,
@@ -74,8 +64,7 @@ fn lengths(id: u32, len: usize) -> Case {
 // A float's pattern, and the whole number that is meant by it.
 fn whole(id: u32, meant: i32) -> Case {
     Case {
-        word: WHOLE,
-        letters: 5,
+        letter: WHOLE,
         numbers: 2,
         id,
         from: 0,

@@ -1,4 +1,4 @@
-// The line of a case: a word, numbers, and the bytes of a buffer in hex.
+// The line of a case: a letter, numbers, and the bytes of a buffer in hex.
 use crate::again::again;
 use crate::cases;
 use crate::cases::Case;
@@ -15,8 +15,8 @@ pub const BEFORE: u8 = 0xAA;
 fn numbers(case: Case, to: &mut [u8]) -> [u64; 16] {
     let p = payloads();
     let own = text::part(&p, case.from, case.len);
-    let word = case.word;
-    match word {
+    let letter = case.letter;
+    match letter {
         cases::READ => fields_of(case.id, own),
         cases::WRITTEN => {
             let end = text::within(case.room, to);
@@ -25,12 +25,6 @@ fn numbers(case: Case, to: &mut [u8]) -> [u64; 16] {
         cases::LENGTHS => pair(case.id, agreeing(case.id, &p, case.len)),
         _ => pair(case.id, verdict(case.id, case.meant)),
     }
-}
-
-fn put_numbers(out: &mut [u8], at: usize, from: usize, letters: usize, list: &[u64]) -> usize {
-    let words = cases::words();
-    let at = text::put(out, at, text::part(&words, from, letters));
-    text::put_numbers(out, at, list)
 }
 
 // A space and the bytes, where there are any, and the line's end.
@@ -43,12 +37,6 @@ fn put_bytes(out: &mut [u8], at: usize, bytes: &[u8]) -> usize {
 pub fn put_line(out: &mut [u8], at: usize, case: Case) -> usize {
     let mut bytes = [BEFORE; 60];
     let list = numbers(case, &mut bytes);
-    let at = put_numbers(
-        out,
-        at,
-        case.word,
-        case.letters,
-        text::first(&list, case.numbers),
-    );
+    let at = rows::put_begun(out, at, case.letter, text::first(&list, case.numbers));
     put_bytes(out, at, text::part(&bytes, 0, case.room))
 }
