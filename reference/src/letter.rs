@@ -4,7 +4,7 @@
 use std::io;
 use std::path::Path;
 
-use crate::compare::{printed, run_program};
+use crate::compare::{describe_record, printed, run_program};
 use crate::fault::Fault;
 use crate::layout::{Address, Item, Message};
 use crate::story::{script, Part, Step, DECIMALS, KIND_NAMES, TABLET};
@@ -51,11 +51,12 @@ fn told(parts: &[Part], lines: &str, wanted: &str) -> Result<String, String> {
             Part::Text(words) => text += words,
             Part::Step(step) => {
                 let (line, wanted) = (lines.next().unwrap_or(""), wanted.next().unwrap_or(""));
+                let record = || describe_record(&step.record());
                 if line != wanted {
-                    return Err(format!("{step:?}\n  printed {line}\n  wanted  {wanted}"));
+                    return Err(format!("{}\n  printed {line}\n  wanted  {wanted}", record()));
                 }
                 text += &said(step);
-                text += &answered(line).ok_or(format!("{step:?}\n  printed {line}"))?;
+                text += &answered(line).ok_or_else(|| format!("{}\n  printed {line}", record()))?;
             }
         }
     }

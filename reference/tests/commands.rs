@@ -1,4 +1,4 @@
-//! The command `vectors`: its status and what it prints.
+//! The commands `vectors` and `letter`: their status and what they print.
 
 use std::fs;
 use std::path::PathBuf;
@@ -87,4 +87,23 @@ fn what_cannot_be_played() {
     let arguments = ["vectors", "--table", good.name(), "--console", "no such program"];
     assert_eq!(run(&arguments).0, Some(2));
     assert_eq!(run(&["vectors", "--table", "no such table"]).0, Some(2));
+}
+
+#[test]
+fn a_story_of_a_console_that_prints_nothing() {
+    let story = Scratch::new("story", "It asks:\n>5 timer flight\n");
+    let (status, out, _) = run(&["letter", "--story", story.name(), "--console", PROGRAM]);
+    assert_eq!(status, Some(1));
+    assert!(out.starts_with("letter: the console and the reference differ: TIMER kind 0"), "{out}");
+    assert!(out.ends_with("  printed \n  wanted  t 1 0 0 -\n"), "{out}");
+}
+
+#[test]
+fn a_story_that_cannot_be_played() {
+    let story = Scratch::new("unread-story", "It asks:\n>5 timer flight soon\n");
+    let (status, out, error) = run(&["letter", "--story", story.name(), "--console", PROGRAM]);
+    assert_eq!((status, out.as_str()), (Some(2), ""));
+    assert!(error.contains("line 2: soon: nothing more is asked for"), "{error}");
+    let arguments = ["letter", "--story", "no such story", "--console", PROGRAM];
+    assert_eq!(run(&arguments).0, Some(2));
 }
