@@ -27,16 +27,13 @@ fn numbers(case: Case, to: &mut [u8]) -> [u64; 16] {
     }
 }
 
-// A space and the bytes, where there are any, and the line's end.
-fn put_bytes(out: &mut [u8], at: usize, bytes: &[u8]) -> usize {
-    let at = text::put(out, at, text::part(b" ", 0, bytes.len()));
-    let at = text::put_hex(out, at, bytes);
-    text::put_byte(out, at, b'\n')
-}
-
+// The numbers, and behind a space the bytes, where there are any.
 pub fn put_line(out: &mut [u8], at: usize, case: Case) -> usize {
     let mut bytes = [BEFORE; 60];
     let list = numbers(case, &mut bytes);
     let at = rows::put_begun(out, at, case.letter, text::first(&list, case.numbers));
-    put_bytes(out, at, text::part(&bytes, 0, case.room))
+    let lent = text::part(&bytes, 0, case.room);
+    let at = text::put(out, at, text::part(b" ", 0, lent.len()));
+    let at = text::put_hex(out, at, lent);
+    text::put_byte(out, at, b'\n')
 }
