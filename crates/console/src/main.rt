@@ -1,12 +1,14 @@
 // Plays a call script from standard input over the service: makes its calls, and prints their lines.
 mod play;
 
+use script::HEADER_BYTES;
+use script::MOST_PAYLOAD;
 use script::Next;
 use script::STORE_ARRAY;
 use text::Unread;
 
 // The longest record, and the buffer that records are read into.
-const MOST_RECORD: usize = 324;
+const MOST_RECORD: usize = HEADER_BYTES + MOST_PAYLOAD;
 
 const INPUT: usize = 4096;
 
