@@ -179,7 +179,9 @@ fn degrees(words: &mut SplitWhitespace) -> Result<i32, String> {
     let word = words.next().ok_or("degrees are missing")?;
     let fault = || format!("{word}: not degrees with at most {DECIMALS} decimals");
     let (whole, decimals) = word.split_once('.').unwrap_or((word, ""));
-    if decimals.len() > DECIMALS || !decimals.bytes().all(|digit| digit.is_ascii_digit()) {
+    let digits = |text: &str| text.bytes().all(|digit| digit.is_ascii_digit());
+    let ahead = whole.strip_prefix('-').unwrap_or(whole);
+    if ahead.is_empty() || !digits(ahead) || decimals.len() > DECIMALS || !digits(decimals) {
         return Err(fault());
     }
     format!("{whole}{decimals:0<DECIMALS$}").parse().map_err(|_| fault())
@@ -251,6 +253,7 @@ mod tests {
                 ">5 item 255 flight 0 16 1.23456789 0",
                 "line 1: 1.23456789: not degrees with at most 7 decimals",
             ),
+            (">5 item 255 flight 0 16 -.5 0", "line 1: -.5: not degrees with at most 7 decimals"),
             (">done 5", "line 1: 5: nothing more is asked for"),
         ] {
             assert_eq!(read(text).unwrap_err(), fault);
