@@ -1,14 +1,14 @@
 -- A command in words, as the lines of a call script have it.
 use Prim.Native.Nat.{ℕ, _/_, _%_}
-use mathlib.Core.Bool.{cond}
 use mathlib.Core.List.{List, [], _∷_, _++_}
 use lib.Ieee.{Float, binary32, toBits}
 use lib.ListN.{take, drop}
 use Rattle.text.specs.Words.{ascii}
 use Rattle.text.specs.Digits.{spaced, hex}
+use Rattle.rows.specs.Rows.{line}
 use Rattle.command_words.specs.declared.Answer.{Answer}
-use Rattle.plan_search.specs.declared.Command.{Command}
-use Rattle.plan_search.specs.declared.Command.the-variants.{Fly, Wait, Near, Turn, Speed, Servo, Finished, Stuck}
+use Rattle.command.specs.declared.Command.{Command}
+use Rattle.command.specs.declared.Command.the-variants.{Fly, Wait, Near, Turn, Speed, Servo, Finished, Stuck}
 
 -- a value after a space: "8 hex digits, the bit pattern .., highest first". Every NaN is shown as the quiet one without a sign.
 abbrev pub highFirst : ℕ → List ℕ
@@ -28,12 +28,12 @@ commandText (Servo n channel pulse) = ascii " servo" ++ spaced (n ∷ channel �
 commandText Finished = ascii " finished"
 commandText Stuck = ascii " stuck"
 
--- the same as the code holds it, with a part of all words
+-- the same as the code holds it, with a part of all words, as the rest of a line
 abbrev pub words : List ℕ
 words = ascii " fly wait near turn speed servo finished stuck"
 
 abbrev pub wordOf : (from letters : ℕ) → List ℕ
 wordOf from letters = take letters (drop from words)
 
-unfoldable pub answerText : Answer → List ℕ
-answerText t = wordOf (t .from) (t .letters) ++ (spaced (take (t .numbers) (t .list)) ++ cond (t .valued) (valueText (t .value)) [])
+unfoldable pub answerLine : Answer → List ℕ
+answerLine t = line (wordOf (t .from) (t .letters)) (take (t .numbers) (t .list)) (take (t .bytes) (ascii " ")) (take (t .bytes) (t .value)) (ascii "\n")

@@ -4,9 +4,10 @@ ghost use mathlib.Core.List.{[], _∷_, _++_};
 ghost use lib.Ieee.{binary32, toBits};
 ghost use lib.ListN.{take};
 ghost use Rattle.adding.specs.Added.{Adds};
+ghost use Rattle.text.specs.Words.{ascii};
 ghost use Rattle.text.specs.Digits.{spaced};
-ghost use Rattle.command_words.specs.Commands.{valueText, words as Commands·words, wordOf, answerText, commandText};
-use plan_search::Command;
+ghost use Rattle.command_words.specs.Commands.{valueText, words as Commands·words, wordOf, answerLine, commandText};
+use command::Command;
 
 // The bit pattern of a value; every NaN is shown as the quiet one.
 fn bits(x: f32) -> u32
@@ -16,21 +17,6 @@ fn bits(x: f32) -> u32
         return f32::to_bits(x);
     }
     0x7fc0_0000
-}
-
-// A value after a space.
-fn put_value(out: &mut [u8], at: usize, x: f32) -> usize
-    ensures { λ r. ⌜ Adds (valueText x) (now (out .entry)) at (now (out .exit)) r ⌝ }
-{
-    let n = bits(x);
-    let bytes = [
-        (n / 16777216) as u8,
-        (n / 65536 % 256) as u8,
-        (n / 256 % 256) as u8,
-        (n % 256) as u8,
-    ];
-    let end = text::put_byte(out, at, b' ');
-    text::put_hex(out, end, &bytes)
 }
 
 const LETTERS: usize = 46;
@@ -44,52 +30,50 @@ fn words() -> [u8; LETTERS]
     WORDS
 }
 
-// A part of the words.
-fn put_word(out: &mut [u8], at: usize, from: usize, letters: usize) -> usize
-    ensures { λ r. ⌜ Adds (wordOf from letters) (now (out .entry)) at (now (out .exit)) r ⌝ }
-{
-    let words = words();
-    text::put(out, at, text::part(&words, from, letters))
-}
-
-// What is told of a command: a part of the words, the first numbers of a list, and a value or none.
+// What is told of a command: a part of the words, the first numbers of a list, and the first bytes of a value.
 struct Answer {
     from: usize,
     letters: usize,
     list: [u64; 3],
     numbers: usize,
-    valued: bool,
-    value: f32,
+    value: [u8; 4],
+    bytes: usize,
 }
 
-fn with_value(from: usize, letters: usize, n: u16, value: f32) -> Answer
-    ensures { λ r. ⌜ answerText r ≡ wordOf from letters ++ (spaced (n ∷ []) ++ valueText value) ⌝ }
+fn with_value(from: usize, letters: usize, n: u16, x: f32) -> Answer
+    ensures { λ r. ⌜ answerLine r ≡ (wordOf from letters ++ (spaced (n ∷ []) ++ valueText x)) ++ ascii "\n" ⌝ }
 {
+    let b = bits(x);
     Answer {
         from,
         letters,
         list: [n as u64, 0, 0],
         numbers: 1,
-        valued: true,
-        value,
+        value: [
+            (b / 16777216) as u8,
+            (b / 65536 % 256) as u8,
+            (b / 256 % 256) as u8,
+            (b % 256) as u8,
+        ],
+        bytes: 4,
     }
 }
 
 fn with_numbers(from: usize, letters: usize, list: [u64; 3], numbers: usize) -> Answer
-    ensures { λ r. ⌜ answerText r ≡ wordOf from letters ++ spaced (take numbers list) ⌝ }
+    ensures { λ r. ⌜ answerLine r ≡ (wordOf from letters ++ spaced (take numbers list)) ++ ascii "\n" ⌝ }
 {
     Answer {
         from,
         letters,
         list,
         numbers,
-        valued: false,
-        value: 0.0,
+        value: [0; 4],
+        bytes: 0,
     }
 }
 
 fn answer_of(command: Command) -> Answer
-    ensures { λ r. ⌜ answerText r ≡ commandText command ⌝ }
+    ensures { λ r. ⌜ answerLine r ≡ commandText command ++ ascii "\n" ⌝ }
 {
     match command {
         Command::Fly(n) => with_numbers(0, 4, [n as u64, 0, 0], 1),
@@ -106,20 +90,21 @@ fn answer_of(command: Command) -> Answer
     }
 }
 
-fn put_answer(out: &mut [u8], at: usize, t: Answer) -> usize
-    ensures { λ r. ⌜ Adds (answerText t) (now (out .entry)) at (now (out .exit)) r ⌝ }
-{
-    let end = put_word(out, at, t.from, t.letters);
-    let list = t.list;
-    let end = text::put_numbers(out, end, text::first(&list, t.numbers));
-    if t.valued {
-        return put_value(out, end, t.value);
-    }
-    end
-}
-
+// The rest of a line from its command on.
 pub fn put_command(out: &mut [u8], at: usize, command: Command) -> usize
-    ensures { λ r. ⌜ Adds (commandText command) (now (out .entry)) at (now (out .exit)) r ⌝ }
+    ensures { λ r. ⌜ Adds (commandText command ++ ascii "\n") (now (out .entry)) at (now (out .exit)) r ⌝ }
 {
-    put_answer(out, at, answer_of(command))
+    let t = answer_of(command);
+    let words = words();
+    let list = t.list;
+    let value = t.value;
+    rows::put_line(
+        out,
+        at,
+        text::part(&words, t.from, t.letters),
+        text::first(&list, t.numbers),
+        text::part(b" ", 0, t.bytes),
+        text::part(&value, 0, t.bytes),
+        b"\n",
+    )
 }

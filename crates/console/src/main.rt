@@ -5,7 +5,7 @@ use script::HEADER_BYTES;
 use script::MOST_PAYLOAD;
 use script::Next;
 use script::STORE_ARRAY;
-use text::Unread;
+use streams::Unread;
 
 // The longest record, and the buffer that records are read into.
 const MOST_RECORD: usize = HEADER_BYTES + MOST_PAYLOAD;
@@ -30,8 +30,8 @@ fn main() {
     let mut at: usize = 0;
     let mut turns = u64::MAX;
     while 0 < turns {
-        unread = text::read_on(input, unread.at, unread.end, MOST_RECORD);
-        at = text::send(out, at, MOST_LINES);
+        unread = streams::read_on(input, unread.at, unread.end, MOST_RECORD);
+        at = streams::send(out, at, MOST_LINES);
         let bytes = text::part(input, unread.at, play::left(unread));
         let next = script::next_record(bytes);
         at = lines::put_stop(out, at, next);
@@ -48,5 +48,5 @@ fn main() {
         }
         turns -= 1;
     }
-    text::send(out, at, usize::MAX);
+    streams::send(out, at, usize::MAX);
 }

@@ -5,7 +5,7 @@ use script::HEADER_BYTES;
 use script::REPLY_ARRAY;
 use script::Record;
 use script::STORE_ARRAY;
-use text::Unread;
+use streams::Unread;
 
 // The state after a record, and where the text of lines ends.
 pub struct Played {

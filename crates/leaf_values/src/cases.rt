@@ -1,10 +1,8 @@
-// The lines, one case each, counted from 1.
+// The lines, one case each.
 use crate::test_payloads::LONGEST;
 
-// The letters that lines begin with: fields read, bytes written, lengths that agree, a whole number.
-pub const READ: u8 = b'r';
-
-pub const WRITTEN: u8 = b'w';
+// The letters that lines begin with: a message read and written, lengths that agree, a whole number.
+pub const MESSAGE: u8 = b'm';
 
 pub const LENGTHS: u8 = b'l';
 
@@ -22,24 +20,11 @@ pub struct Case {
     pub room: usize,
 }
 
-// A message is read: so many numbers are shown, its id the first.
-fn read(id: u32, from: usize, len: usize, numbers: usize) -> Case {
+// A message is read, and written into a buffer of so many bytes: so many numbers are shown of it.
+fn message(id: u32, from: usize, len: usize, room: usize, numbers: usize) -> Case {
     Case {
-        letter: READ,
+        letter: MESSAGE,
         numbers,
-        id,
-        from,
-        len,
-        meant: 0,
-        room: 0,
-    }
-}
-
-// A message is read and written into a buffer of so many bytes.
-fn written(id: u32, from: usize, len: usize, room: usize) -> Case {
-    Case {
-        letter: WRITTEN,
-        numbers: 2,
         id,
         from,
         len,
@@ -74,23 +59,29 @@ fn whole(id: u32, meant: i32) -> Case {
     }
 }
 
-// A message, and buffers one byte short for it and just long enough.
+// A message, buffers one byte short for it and just long enough, and how many numbers it has.
 struct Rooms {
     id: u32,
     short: usize,
     full: usize,
+    numbers: usize,
 }
 
-fn bounds(id: u32, short: usize, full: usize) -> Rooms {
-    Rooms { id, short, full }
+fn bounds(id: u32, short: usize, full: usize, numbers: usize) -> Rooms {
+    Rooms {
+        id,
+        short,
+        full,
+        numbers,
+    }
 }
 
 fn rooms_of(i: usize) -> Rooms {
     match i {
-        4 => bounds(wire::COUNT_ID, 8, 9),
-        5 => bounds(wire::ACK_ID, 7, 8),
-        6 => bounds(wire::REQUEST_INT_ID, 4, 5),
-        _ => bounds(wire::ITEM_INT_ID, 37, 38),
+        0 => bounds(wire::COUNT_ID, 8, 9, 7),
+        1 => bounds(wire::ACK_ID, 7, 8, 7),
+        2 => bounds(wire::REQUEST_INT_ID, 4, 5, 6),
+        _ => bounds(wire::ITEM_INT_ID, 37, 38, 17),
     }
 }
 
@@ -99,39 +90,34 @@ fn length_case(i: usize) -> Case {
     let m = rooms_of(i / 4);
     match i % 4 {
         0 => lengths(m.id, m.full),
-        1 => written(m.id, 0, 0, 60),
-        2 => written(m.id, 0, LONGEST, m.short),
-        _ => written(m.id, 0, LONGEST, m.full),
+        1 => message(m.id, 0, 0, 60, m.numbers),
+        2 => message(m.id, 0, LONGEST, m.short, m.numbers),
+        _ => message(m.id, 0, LONGEST, m.full, m.numbers),
     }
 }
 
-pub const COUNT: usize = 37;
+pub const COUNT: usize = 32;
 
-// MAVLink's own test values: each message that is read and, where it is also written, its bytes; then those that are only written. From 32 on, whole
-// numbers: 8388607 and 8388607.5; the last below 2 ^ 31, 2 ^ 31, -2 ^ 31, and the first below it.
+// Payloads of every length; from 16 on MAVLink's own test values: the messages that are read, with their bytes where they are also written, then those that
+// are only written; from 26 on whole numbers: 8388607 and 8388607.5; the last below 2 ^ 31, 2 ^ 31, -2 ^ 31, and the first below it.
 pub fn case_of(i: usize) -> Case {
     match i {
-        1 => read(wire::SET_CURRENT_ID, 300, 4, 4),
-        2 => read(wire::REQUEST_LIST_ID, 304, 3, 4),
-        3 => read(wire::CLEAR_ALL_ID, 304, 3, 4),
-        4 => read(wire::COUNT_ID, 307, 9, 6),
-        5 => written(wire::COUNT_ID, 307, 9, 60),
-        6 => read(wire::ACK_ID, 316, 8, 6),
-        7 => written(wire::ACK_ID, 316, 8, 60),
-        8 => read(wire::REQUEST_INT_ID, 324, 5, 5),
-        9 => written(wire::REQUEST_INT_ID, 324, 5, 60),
-        10 => read(wire::ITEM_INT_ID, 329, 38, 16),
-        11 => written(wire::ITEM_INT_ID, 329, 38, 60),
-        12 => read(wire::ITEM_INT_ID, 367, 38, 16),
-        13 => written(wire::ITEM_INT_ID, 367, 38, 60),
-        14 => written(wire::CURRENT_ID, 0, 0, 60),
-        15 => written(wire::STATUSTEXT_ID, 0, 0, 60),
-        32 => whole(0x4aff_fffe, 8388607),
-        33 => whole(0x4aff_ffff, 8388607),
-        34 => whole(0x4eff_ffff, 2147483520),
-        35 => whole(0x4f00_0000, 2147483647),
-        36 => whole(0xcf00_0000, -2147483648),
-        37 => whole(0xcf00_0001, -2147483648),
+        16 => message(wire::SET_CURRENT_ID, 300, 4, 0, 5),
+        17 => message(wire::REQUEST_LIST_ID, 304, 3, 0, 5),
+        18 => message(wire::CLEAR_ALL_ID, 304, 3, 0, 5),
+        19 => message(wire::COUNT_ID, 307, 9, 60, 7),
+        20 => message(wire::ACK_ID, 316, 8, 60, 7),
+        21 => message(wire::REQUEST_INT_ID, 324, 5, 60, 6),
+        22 => message(wire::ITEM_INT_ID, 329, 38, 60, 17),
+        23 => message(wire::ITEM_INT_ID, 367, 38, 60, 17),
+        24 => message(wire::CURRENT_ID, 0, 0, 60, 2),
+        25 => message(wire::STATUSTEXT_ID, 0, 0, 60, 2),
+        26 => whole(0x4aff_fffe, 8388607),
+        27 => whole(0x4aff_ffff, 8388607),
+        28 => whole(0x4eff_ffff, 2147483520),
+        29 => whole(0x4f00_0000, 2147483647),
+        30 => whole(0xcf00_0000, -2147483648),
+        31 => whole(0xcf00_0001, -2147483648),
         _ => length_case(i),
     }
 }

@@ -1,10 +1,10 @@
 // The line of a case: a letter, numbers, and the bytes of a buffer in hex.
-use crate::again::again;
 use crate::cases;
 use crate::cases::Case;
-use crate::fields_read::fields_of;
-use crate::fields_read::pair;
 use crate::lengths::agreeing;
+use crate::messages::NUMBERS;
+use crate::messages::few;
+use crate::messages::shown;
 use crate::test_payloads::payloads;
 use crate::wholes::verdict;
 
@@ -12,18 +12,17 @@ use crate::wholes::verdict;
 pub const BEFORE: u8 = 0xAA;
 
 // The numbers of a line; a message is written into the first bytes of the buffer, as many as the case says.
-fn numbers(case: Case, to: &mut [u8]) -> [u64; 16] {
+fn numbers(case: Case, to: &mut [u8]) -> [u64; NUMBERS] {
     let p = payloads();
-    let own = text::part(&p, case.from, case.len);
     let letter = case.letter;
     match letter {
-        cases::READ => fields_of(case.id, own),
-        cases::WRITTEN => {
+        cases::MESSAGE => {
             let end = text::within(case.room, to);
-            pair(case.id, again(case.id, own, &mut to[..end]) as u64)
+            let own = text::part(&p, case.from, case.len);
+            shown(case.id, own, &mut to[..end])
         }
-        cases::LENGTHS => pair(case.id, agreeing(case.id, &p, case.len)),
-        _ => pair(case.id, verdict(case.id, case.meant)),
+        cases::LENGTHS => few(case.id, agreeing(case.id, &p, case.len), 0, 0, 0, 0, 0),
+        _ => few(case.id, verdict(case.id, case.meant), 0, 0, 0, 0, 0),
     }
 }
 
@@ -31,9 +30,16 @@ fn numbers(case: Case, to: &mut [u8]) -> [u64; 16] {
 pub fn put_line(out: &mut [u8], at: usize, case: Case) -> usize {
     let mut bytes = [BEFORE; 60];
     let list = numbers(case, &mut bytes);
-    let at = rows::put_begun(out, at, case.letter, text::first(&list, case.numbers));
     let lent = text::part(&bytes, 0, case.room);
-    let at = text::put(out, at, text::part(b" ", 0, lent.len()));
-    let at = text::put_hex(out, at, lent);
-    text::put_byte(out, at, b'\n')
+    let mark = text::part(b" ", 0, lent.len());
+    let letter = [case.letter];
+    rows::put_line(
+        out,
+        at,
+        &letter,
+        text::first(&list, case.numbers),
+        mark,
+        lent,
+        b"\n",
+    )
 }

@@ -10,7 +10,7 @@ use Rattle.text.specs.Digits.{hex}
 use Rattle.rows.specs.Rows.{begun, row}
 use Rattle.script.specs.declared.Next.{Next}
 use Rattle.script.specs.declared.Next.the-variants.{Play, End, Cut, Bad}
-use Rattle.plan_search.specs.declared.Command.{Command}
+use Rattle.command.specs.declared.Command.{Command}
 use Rattle.command_words.specs.Commands.{commandText}
 
 -- "the first LEN bytes of the reply array in hex, or `-` when LEN is 0"

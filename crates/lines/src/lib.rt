@@ -1,24 +1,13 @@
 // The lines that a call script's records print, each put behind the text so far.
 ghost use mathlib.Core.Path.{_≡_};
-ghost use mathlib.Core.List.{_∷_};
 ghost use lib.ListN.{drop};
 ghost use Rattle.adding.specs.Added.{Adds};
-ghost use Rattle.lines.specs.Lines.{replyText, untouched as Lines·untouched, markedEnd, servedLine, doneLine, stopText};
-use plan_search::Command;
+ghost use Rattle.lines.specs.Lines.{untouched as Lines·untouched, servedLine, doneLine, stopText};
+use command::Command;
 use script::Next;
 
 // What a reply array holds before a call.
 pub const REPLY_FILL: u8 = 0xA5;
-
-fn put_reply(out: &mut [u8], at: usize, len: usize, reply: &[u8]) -> usize
-    ensures { λ r. ⌜ Adds (32 ∷ replyText len (now (reply .entry))) (now (out .entry)) at (now (out .exit)) r ⌝ }
-{
-    let end = text::put_byte(out, at, b' ');
-    if len == 0 {
-        return text::put_byte(out, end, b'-');
-    }
-    text::put_hex(out, end, text::part(reply, 0, len))
-}
 
 // Whether the bytes of a reply array from len on are what they were before the call.
 fn untouched(reply: &[u8], len: usize) -> bool
@@ -34,15 +23,6 @@ fn untouched(reply: &[u8], len: usize) -> bool
     true
 }
 
-fn put_end(out: &mut [u8], at: usize, clean: bool) -> usize
-    ensures { λ r. ⌜ Adds (markedEnd clean) (now (out .entry)) at (now (out .exit)) r ⌝ }
-{
-    if clean {
-        return text::put_byte(out, at, b'\n');
-    }
-    text::put(out, at, b" B\n")
-}
-
 // What a message or a timer call returned, and the reply.
 pub fn put_served(
     out: &mut [u8],
@@ -56,9 +36,10 @@ pub fn put_served(
     ensures { λ r. ⌜ Adds (servedLine letter outcome id len (now (reply .entry))) (now (out .entry)) at (now (out .exit)) r ⌝ }
 {
     let list = [outcome as u64, id as u64, len as u64];
-    let end = rows::put_begun(out, at, letter, &list);
-    let end = put_reply(out, end, len, reply);
-    put_end(out, end, untouched(reply, len))
+    let mark = text::part(b" -", 0, 1 + (len == 0) as usize);
+    let last = text::part(b" B\n", 2 * untouched(reply, len) as usize, 3);
+    let bytes = text::part(reply, 0, len);
+    rows::put_line(out, at, &[letter], &list, mark, bytes, last)
 }
 
 // What a "command done" call answered.
@@ -67,8 +48,7 @@ pub fn put_done(out: &mut [u8], at: usize, outcome: u8, command: Command) -> usi
 {
     let list = [outcome as u64];
     let end = rows::put_begun(out, at, b'd', &list);
-    let end = command_words::put_command(out, end, command);
-    text::put_byte(out, end, b'\n')
+    command_words::put_command(out, end, command)
 }
 
 // Why a script stops, where that is not its end.

@@ -4,7 +4,7 @@ mod find;
 
 use find::Found;
 use plan::State;
-pub use plan_search::Command;
+use command::Command;
 ghost use mathlib.Core.Path.{_≡_};
 ghost use mathlib.Core.Bool.{true, cond};
 ghost use Prim.Native.Nat.{_+_, _≤_, _<_};

@@ -6,7 +6,6 @@ use native.Mathlib.Decide.{decLe}
 use native.Mathlib.Omega.{arith}
 use lib.ListN.{length, take, drop, drop-of-length-le, length-drop}
 use lib.Seq.{take-all, length-take-le}
-use Rattle.io.specs.Counts.{Counts}
 
 pub front-again : (n : ℕ) (l : List ℕ) → take (length (take n l)) l ≡ take n l
 front-again zero l = refl
@@ -42,5 +41,5 @@ module _ (l : List ℕ) (from start n : ℕ) (is : start ≡ min from (length l)
       ∙ ap (λ (k : List ℕ). take n k) from-there
 
 -- the places in a buffer, and its end for those past it
-pub within-place : (n r : ℕ) (l : List ℕ) → r ≡ min n (length l) → (r ≡ min n (length l)) × Counts r l
+pub within-place : (n r : ℕ) (l : List ℕ) → r ≡ min n (length l) → (r ≡ min n (length l)) × ((r ≤ length l) × (r ≡ length (take r l)))
 within-place n r l e = let h : r ≤ length l = omega arith in (e, (h, sym (length-take-le r l h)))

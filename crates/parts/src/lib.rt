@@ -1,13 +1,12 @@
 // Parts of lent slices, as far as these go.
-ghost use Prim.Native.Nat.{min};
+ghost use Prim.Native.Nat.{_≤_, min};
 ghost use mathlib.Core.Path.{_≡_};
 ghost use lib.ListN.{length, take, drop};
-ghost use Rattle.io.specs.Counts.{Counts};
 
 // A place in a slice, or its end for a place past it.
 pub fn within(at: usize, out: &[u8]) -> usize
     ensures { λ r. ⌜ r ≡ min at (length (now (out .entry))) ⌝ }
-    ensures { λ r. ⌜ Counts r (now (out .entry)) ⌝ }
+    ensures { λ r. ⌜ (r ≤ length (now (out .entry))) × (r ≡ length (take r (now (out .entry)))) ⌝ }
 {
     if at < out.len() { at } else { out.len() }
 }

@@ -5,7 +5,6 @@ ghost use Rattle.adding.specs.Added.{Adds};
 ghost use Rattle.plan_dump.specs.Plans.{itemLine, itemLines, brought as Plans·brought, uploadLine, planLine, kindText};
 use limits::ITEM_BYTES;
 use plan::Plan;
-use plan::Run;
 use plan::Upload;
 
 // The line of the item with a number: its bytes.
@@ -13,10 +12,7 @@ fn put_item(out: &mut [u8], at: usize, letter: u8, kind: u8, n: u16, bytes: &[u8
     ensures { λ r. ⌜ Adds (itemLine letter kind n (now (bytes .entry))) (now (out .entry)) at (now (out .exit)) r ⌝ }
 {
     let list = [kind as u64, n as u64];
-    let end = rows::put_begun(out, at, letter, &list);
-    let end = text::put_byte(out, end, b' ');
-    let end = text::put_hex(out, end, bytes);
-    text::put_byte(out, end, b'\n')
+    rows::put_line(out, at, &[letter], &list, b" ", bytes, b"\n")
 }
 
 // The items of a kind in a half, up to a number.
@@ -49,35 +45,23 @@ pub fn either(b: bool, yes: u64, no: u64) -> u64
     if b { yes } else { no }
 }
 
-fn put_run(out: &mut [u8], at: usize, kind: u8, run: Run) -> usize
-    ensures { λ r. ⌜ Adds (uploadLine kind (Upload.Running run)) (now (out .entry)) at (now (out .exit)) r ⌝ }
-{
-    let list = [
-        kind as u64,
-        run.system as u64,
-        run.component as u64,
-        run.count as u64,
-        run.next as u64,
-        run.started as u64,
-        run.repeats as u64,
-    ];
-    rows::put_row(out, at, b'u', &list)
-}
-
-fn put_idle(out: &mut [u8], at: usize, kind: u8) -> usize
-    ensures { λ r. ⌜ Adds (uploadLine kind Upload.Idle) (now (out .entry)) at (now (out .exit)) r ⌝ }
-{
-    let list = [kind as u64];
-    let end = rows::put_begun(out, at, b'u', &list);
-    text::put(out, end, b" -\n")
-}
-
 fn put_upload(out: &mut [u8], at: usize, kind: u8, upload: Upload) -> usize
     ensures { λ r. ⌜ Adds (uploadLine kind upload) (now (out .entry)) at (now (out .exit)) r ⌝ }
 {
     match upload {
-        Upload::Idle => put_idle(out, at, kind),
-        Upload::Running(run) => put_run(out, at, kind, run),
+        Upload::Idle => rows::put_line(out, at, b"u", &[kind as u64], b" -", b"", b"\n"),
+        Upload::Running(run) => {
+            let list = [
+                kind as u64,
+                run.system as u64,
+                run.component as u64,
+                run.count as u64,
+                run.next as u64,
+                run.started as u64,
+                run.repeats as u64,
+            ];
+            rows::put_row(out, at, b'u', &list)
+        }
     }
 }
 

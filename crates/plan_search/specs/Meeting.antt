@@ -18,7 +18,7 @@ use Rattle.rules.specs.NextCommand.{commandOf, targetOf, repeatOf, passedOver, 
 use Rattle.rules.specs.NextCommand as rules
 use Rattle.values.specs.declared.Whole.{Whole}
 use Rattle.values.specs.declared.Whole.the-variants.{Integer, NotWhole}
-use Rattle.plan_search.specs.declared.Command.the-variants.{Stuck}
+use Rattle.command.specs.declared.Command.the-variants.{Stuck}
 use Rattle.plan_search.specs.declared.Met.{Met}
 use Rattle.plan_search.specs.declared.Met.the-variants.{Ends, Stands, Follows}
 use Rattle.plan_search.specs.declared.Look.{Look}

@@ -2,8 +2,8 @@
 use mathlib.Core.Path.{_≡_, refl}
 use Rattle.rules.specs.NextCommand.{fly, wait, near, turn, speed, servo, finished, stuck}
 use Rattle.rules.specs.NextCommand as rules
-use Rattle.plan_search.specs.declared.Command.{Command}
-use Rattle.plan_search.specs.declared.Command.the-variants.{Fly, Wait, Near, Turn, Speed, Servo, Finished, Stuck}
+use Rattle.command.specs.declared.Command.{Command}
+use Rattle.command.specs.declared.Command.the-variants.{Fly, Wait, Near, Turn, Speed, Servo, Finished, Stuck}
 
 -- the rules' command for each case of the answer
 abbrev pub orderOf : Command → rules.Command

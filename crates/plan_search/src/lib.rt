@@ -1,5 +1,6 @@
 // What a search meets: the items of the flight plan from a place on, each judged, and jumps that have run as often as they repeat
 // passed over.
+use command::Command;
 use item::Item;
 use limits::ACCEPTED;
 use limits::CHANGE_SPEED;
@@ -21,18 +22,6 @@ ghost use Rattle.places.specs.Places.{itemAt, itemsIn};
 ghost use Rattle.plan_search.specs.Orders.{commandFor};
 ghost use Rattle.plan_search.specs.Valid.{ServoFits};
 ghost use Rattle.plan_search.specs.Meeting.{metFor, lookAs, jumpAs};
-
-// The answer, with the item's number: its seconds, metres, degrees or speed, or a servo's channel and pulse.
-pub enum Command {
-    Fly(u16),
-    Wait(u16, f32),
-    Near(u16, f32),
-    Turn(u16, f32),
-    Speed(u16, f32),
-    Servo(u16, u16, u16),
-    Finished,
-    Stuck,
-}
 
 // What a search meets first that is no jump to pass over.
 pub enum Met {

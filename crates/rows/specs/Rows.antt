@@ -2,7 +2,7 @@
 use Prim.Native.Nat.{ℕ}
 use mathlib.Core.List.{List, _∷_, _++_}
 use Rattle.text.specs.Words.{ascii}
-use Rattle.text.specs.Digits.{spaced}
+use Rattle.text.specs.Digits.{spaced, hex}
 
 -- a letter, and numbers after it
 abbrev pub begun : (letter : ℕ) (ns : List ℕ) → List ℕ
@@ -11,3 +11,7 @@ begun letter ns = letter ∷ spaced ns
 -- a letter and numbers as a line
 abbrev pub row : (letter : ℕ) (ns : List ℕ) → List ℕ
 row letter ns = begun letter ns ++ ascii "\n"
+
+-- a word, numbers, a mark, bytes, and the last of the line
+abbrev pub line : (word ns mark bytes last : List ℕ) → List ℕ
+line word ns mark bytes last = word ++ (spaced ns ++ (mark ++ (hex bytes ++ last)))

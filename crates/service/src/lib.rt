@@ -7,7 +7,7 @@ ghost use Rattle.rules.specs.Calls as calls;
 ghost use Rattle.service.specs.Calls.{Serves, servedResult, advanceResult};
 use answers::Served;
 use answers::say::NO_REPLY;
-use next_command::Command;
+use command::Command;
 use plan::State;
 
 // A fresh start: every plan empty, item 0 the current one and not begun.

@@ -1,5 +1,5 @@
-// Text in lent buffers: bytes, decimal and hexadecimal numbers put behind the text so far; and, from the crates below, parts of slices, standard output
-// from a buffer and standard input into one.
+// Text in lent buffers: bytes, decimal and hexadecimal numbers put behind the text so far; and, from the crate below, parts of slices. Standard output
+// from a buffer and standard input into one are in `streams`.
 mod numerals;
 
 pub use adding::put;
@@ -11,6 +11,3 @@ pub use numerals::put_shorts;
 pub use parts::first;
 pub use parts::part;
 pub use parts::within;
-pub use streams::Unread;
-pub use streams::read_on;
-pub use streams::send;

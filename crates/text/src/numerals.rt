@@ -7,13 +7,30 @@ use adding::put;
 use adding::put_byte;
 use parts::within;
 
-// A number in decimal digits.
+// No number of 64 bits has more decimal digits.
+const MOST_DIGITS: usize = 20;
+
+fn digit(n: u8) -> u8
+    requires { ⌜ n < 16 ⌝ }
+    ensures { λ r. ⌜ r ≡ Digits·digit n ⌝ }
+{
+    if n < 10 { 48 + n } else { 55 + n }
+}
+
+// A number in decimal digits, which are made from the last to the first.
 pub fn put_number(out: &mut [u8], at: usize, n: u64) -> usize
     ensures { λ r. ⌜ Adds (decimal n) (now (out .entry)) at (now (out .exit)) r ⌝ }
 {
-    let mut digits = [0u8; 20];
-    let count = io::decimal(n, &mut digits);
-    put(out, at, &digits[..count])
+    let mut digits = [0u8; MOST_DIGITS];
+    let mut first = MOST_DIGITS - 1;
+    let mut left = n;
+    while 9 < left {
+        digits[first] = digit((left % 10) as u8);
+        first -= 1;
+        left = left / 10;
+    }
+    digits[first] = digit(left as u8);
+    put(out, at, &digits[first..])
 }
 
 fn put_after_space(out: &mut [u8], at: usize, n: u64) -> usize
@@ -53,13 +70,6 @@ pub fn put_shorts(out: &mut [u8], at: usize, list: &[u16]) -> usize
         i += 1;
     }
     end
-}
-
-fn digit(n: u8) -> u8
-    requires { ⌜ n < 16 ⌝ }
-    ensures { λ r. ⌜ r ≡ Digits·digit n ⌝ }
-{
-    if n < 10 { 48 + n } else { 55 + n }
 }
 
 fn put_two_digits(out: &mut [u8], at: usize, byte: u8) -> usize

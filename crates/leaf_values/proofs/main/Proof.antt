@@ -1,4 +1,4 @@
--- `leaf_values::main` meets its contract: `i` stays at most one past the last case.
+-- `leaf_values::main` meets its contract: `i` stays at most the count of cases.
 use Prim.Native.Nat.{_-_, _≤_}
 use mathlib.Core.Path.{_≡_}
 use lib.ListN.{length}
@@ -7,10 +7,10 @@ use Rattle.leaf_values.proofs.main.Statement.{statement}
 use Rattle.leaf_values.proofs.main.Tie as tie
 
 abbrev Inv-loop : tie.InvT-loop
-Inv-loop out₀ at₀ i₀ out at i = (i ≤ 38) × (length out ≡ 8192)
+Inv-loop out₀ at₀ i₀ out at i = (i ≤ 32) × (length out ≡ 8192)
 
 abbrev μ-loop : tie.MeasureT-loop
-μ-loop out₀ at₀ i₀ out at i = 38 - i
+μ-loop out₀ at₀ i₀ out at i = 32 - i
 
 loop-holds : tie.Need-loop-holds Inv-loop μ-loop
 loop-holds c = search needs

@@ -11,7 +11,7 @@ use Rattle.rules.specs.NextCommand.{commandOf}
 use Rattle.item.specs.declared.Item.{Item}
 use Rattle.item.specs.Patterns.{itemFor, patterns}
 use Rattle.values.specs.Wholes.{number31}
-use Rattle.plan_search.specs.declared.Command.the-variants.{Fly, Wait, Near, Turn, Speed, Servo}
+use Rattle.command.specs.declared.Command.the-variants.{Fly, Wait, Near, Turn, Speed, Servo}
 use Rattle.plan_search.specs.Orders.{commandFor}
 use Rattle.plan_search.specs.Valid.{ServoFits}
 use Rattle.plan_search.proofs.command_of.Statement.{statement}

@@ -20,8 +20,8 @@ use Rattle.item.specs.declared.Item.{Item}
 use Rattle.values.specs.declared.Whole.{Whole}
 use Rattle.item.specs.Patterns.{itemFor, patterns, patterns-of, values-of}
 use Rattle.values.specs.Wholes.{whole32, number31}
-use Rattle.plan_search.specs.declared.Command.{Command}
-use Rattle.plan_search.specs.declared.Command.the-variants.{Stuck}
+use Rattle.command.specs.declared.Command.{Command}
+use Rattle.command.specs.declared.Command.the-variants.{Stuck}
 use Rattle.plan_search.specs.declared.Met.the-variants.{Ends, Stands, Follows}
 use Rattle.plan_search.specs.declared.Look.{Look}
 use Rattle.plan_search.specs.declared.Look.the-variants.{Meets, PassedOver}

@@ -13,7 +13,7 @@ use Rattle.rules.specs.Payload.{Bytes}
 use Rattle.rules.specs.Messages.{itemIn}
 use Rattle.rules.specs.NextCommand.{meets}
 use Rattle.places.specs.Places.{itemAt, itemsIn, length-items}
-use Rattle.plan_search.specs.declared.Command.the-variants.{Finished}
+use Rattle.command.specs.declared.Command.the-variants.{Finished}
 use Rattle.plan_search.specs.declared.Met.{Met}
 use Rattle.plan_search.specs.declared.Met.the-variants.{Ends}
 use Rattle.plan_search.specs.declared.Look.{Look}

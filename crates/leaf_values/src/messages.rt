@@ -1,0 +1,162 @@
+// A message read, and written again; of a message that is only written, MAVLink's own test values.
+fn current() -> wire::Current {
+    wire::Current {
+        seq: 17235,
+        total: 17339,
+        state: 17,
+        mode: 84,
+        mission: 963497776,
+        fence: 963497984,
+        rally: 963498192,
+    }
+}
+
+// Severity 5, fifty times `m`, id 19887, chunk 228.
+fn statustext() -> wire::Statustext {
+    wire::Statustext {
+        severity: 5,
+        text: [b'm'; 50],
+        id: 19887,
+        chunk: 228,
+    }
+}
+
+// The numbers of a message: its id, how many bytes are written of it, and its fields as read, in wire order; params and z as bit patterns.
+pub const NUMBERS: usize = 17;
+
+pub fn few(id: u32, n: u64, a: u64, b: u64, c: u64, d: u64, e: u64) -> [u64; NUMBERS] {
+    [id as u64, n, a, b, c, d, e, 0, 0, 0, 0, 0, 0, 0, 0, 0, 0]
+}
+
+fn item_shown(p: &[u8], n: u64) -> [u64; NUMBERS] {
+    let m = wire::read_item_int(p);
+    let i = m.item;
+    [
+        73,
+        n,
+        i.bits1 as u64,
+        i.bits2 as u64,
+        i.bits3 as u64,
+        i.bits4 as u64,
+        i.bits_x as u64,
+        i.bits_y as u64,
+        i.bits_z as u64,
+        i.seq as u64,
+        i.command as u64,
+        m.system as u64,
+        m.component as u64,
+        i.frame as u64,
+        m.current as u64,
+        i.autocontinue as u64,
+        i.kind as u64,
+    ]
+}
+
+// A message that is only read.
+fn read_only(id: u32, p: &[u8]) -> [u64; NUMBERS] {
+    match id {
+        wire::SET_CURRENT_ID => {
+            let m = wire::read_set_current(p);
+            few(
+                id,
+                0,
+                m.seq as u64,
+                m.system as u64,
+                m.component as u64,
+                0,
+                0,
+            )
+        }
+        wire::REQUEST_LIST_ID => {
+            let m = wire::read_request_list(p);
+            few(
+                id,
+                0,
+                m.system as u64,
+                m.component as u64,
+                m.kind as u64,
+                0,
+                0,
+            )
+        }
+        _ => {
+            let m = wire::read_clear_all(p);
+            few(
+                id,
+                0,
+                m.system as u64,
+                m.component as u64,
+                m.kind as u64,
+                0,
+                0,
+            )
+        }
+    }
+}
+
+pub fn shown(id: u32, p: &[u8], to: &mut [u8]) -> [u64; NUMBERS] {
+    match id {
+        wire::CURRENT_ID => few(
+            id,
+            reply::write_current(current(), to) as u64,
+            0,
+            0,
+            0,
+            0,
+            0,
+        ),
+        wire::STATUSTEXT_ID => few(
+            id,
+            reply::write_statustext(statustext(), to) as u64,
+            0,
+            0,
+            0,
+            0,
+            0,
+        ),
+        wire::COUNT_ID => {
+            let m = wire::read_count(p);
+            let n = reply::write_count(m, to);
+            few(
+                id,
+                n as u64,
+                m.count as u64,
+                m.system as u64,
+                m.component as u64,
+                m.kind as u64,
+                m.number as u64,
+            )
+        }
+        wire::ACK_ID => {
+            let m = wire::read_ack(p);
+            let n = reply::write_ack(m, to);
+            few(
+                id,
+                n as u64,
+                m.system as u64,
+                m.component as u64,
+                m.result as u64,
+                m.kind as u64,
+                m.number as u64,
+            )
+        }
+        wire::REQUEST_INT_ID => {
+            let m = wire::read_request_int(p);
+            let n = reply::write_request_int(m, to);
+            few(
+                id,
+                n as u64,
+                m.seq as u64,
+                m.system as u64,
+                m.component as u64,
+                m.kind as u64,
+                0,
+            )
+        }
+        wire::ITEM_INT_ID => {
+            let n = reply::write_item_int(wire::read_item_int(p), to);
+            item_shown(p, n as u64)
+        }
+        _ => read_only(id, p),
+    }
+}
