@@ -1,19 +1,19 @@
 -- What a host sets, for each way that the tests can go.
-use Prim.Native.Nat.{ℕ, _-_, _%_, _<_}
+use Prim.Native.Nat.{ℕ, _%_, _<_, _≤_}
 use mathlib.Core.Path.{_≡_, sym}
 use mathlib.Core.Bool.{Bool, true, false, true≢false, not, _&&_, cond}
-use mathlib.Core.List.{List, [], _∷_}
+use mathlib.Core.List.{List}
 use lib.Dec.{eqb, ltb}
 use lib.ListN.{getD, set}
-use borrow.Author.Tests.{ltb-true}
-use Rattle.rules.specs.Limits.{maxJumps}
+use borrow.Author.Tests.{ltb-true, le-leb, lt-leb}
+use Rattle.rules.specs.Limits.{rally, maxJumps}
 use Rattle.plan.specs.declared.Plan.{Plan}
 use Rattle.plan.specs.declared.Run.{Run}
 use Rattle.plan.specs.declared.State.{State}
 use Rattle.plan.specs.declared.Upload.{Upload}
 use Rattle.plan.specs.declared.Upload.the-variants.{Idle, Running}
 use Rattle.plan.specs.View.{emptyPlan}
-use Rattle.host.specs.Pokes.{fieldFor, pokedRun, pokedUpload, pokedPlan, pokedPlans, pokedCounts, pokedState}
+use Rattle.host.specs.Pokes.{pokedRun, pokedUpload, pokedPlan, pokedPlans, pokedCounts, pokedState}
 
 module _ (u : Upload) (field v : ℕ) where
   module _ (idle : u ≡ Idle) where
@@ -35,28 +35,27 @@ module _ (u : Upload) (field v : ℕ) where
     runs-on r′ e is = rw (runs, e, ← is)
 
 pub plan-set
-    : (p : Plan) (own f v : ℕ) → own ≡ f
-    → (len : ℕ) (half : Bool) (number : ℕ) (upload : Upload)
-    → len ≡ cond (eqb own 0) (v % 65536) (p .len)
-    → half ≡ cond (eqb own 2) (eqb (v % 2) 1) (p .half)
-    → number ≡ cond (eqb own 1) v (p .number)
-    → upload ≡ pokedUpload (p .upload) own v
-    → record { len = len; half = half; number = number; upload = upload } ≡ pokedPlan p f v
+    : (p : Plan) (field v : ℕ) (len : ℕ) (half : Bool) (number : ℕ) (upload : Upload)
+    → len ≡ cond (eqb field 0) (v % 65536) (p .len)
+    → half ≡ cond (eqb field 2) (eqb (v % 2) 1) (p .half)
+    → number ≡ cond (eqb field 1) v (p .number)
+    → upload ≡ pokedUpload (p .upload) field v
+    → record { len = len; half = half; number = number; upload = upload } ≡ pokedPlan p field v
 unfolding pokedPlan
-plan-set p own f v is len half number upload ll hh nn uu = rw (← is) (λ i. record { len = ll i; half = hh i; number = nn i; upload = uu i })
+plan-set p field v len half number upload ll hh nn uu = λ i. record { len = ll i; half = hh i; number = nn i; upload = uu i }
 
 pub below : (a : Bool) (i n : ℕ) → (a && ltb i n) ≡ true → i < n
 below true i n e = ltb-true i n e
 below false i n e = absurd (true≢false (sym e))
 
-pub plans-set
-    : (plans : List Plan) (field index v : ℕ) (p q r : Plan)
-    → p ≡ pokedPlan (getD plans 0 emptyPlan) (fieldFor 0 index field) v
-    → q ≡ pokedPlan (getD plans 1 emptyPlan) (fieldFor 1 index field) v
-    → r ≡ pokedPlan (getD plans 2 emptyPlan) (fieldFor 2 index field) v
-    → p ∷ q ∷ r ∷ [] ≡ pokedPlans plans field index v
-unfolding pokedPlans
-plans-set plans field index v p q r pp qq rr = λ i. pp i ∷ qq i ∷ rr i ∷ []
+module _ (plans : List Plan) (field index v : ℕ) where
+  pub plan-poked : (p : Plan) → index ≤ rally → p ≡ pokedPlan (getD plans index emptyPlan) field v → set plans index p ≡ pokedPlans plans field index v
+  unfolding pokedPlans
+  plan-poked p h is = rw (le-leb index rally h, is)
+
+  pub plans-left : rally < index → plans ≡ pokedPlans plans field index v
+  unfolding pokedPlans
+  plans-left h = rw (lt-leb index rally h)
 
 pub state-set
     : (st : State) (field index v : ℕ) (plans : List Plan) (current : ℕ) (begun : Bool) (counts : List ℕ)

@@ -1,10 +1,10 @@
 -- A number of the state that a host sets, by its field and index: POKE of a call script. "b4 is the field, b0 the index, a the new value."
 use Prim.Native.Nat.{ℕ, _%_}
 use mathlib.Core.Bool.{not, _&&_, cond}
-use mathlib.Core.List.{List, [], _∷_}
-use lib.Dec.{eqb, ltb}
-use lib.ListN.{length, getD, set}
-use Rattle.rules.specs.Limits.{maxJumps}
+use mathlib.Core.List.{List}
+use lib.Dec.{eqb, leb, ltb}
+use lib.ListN.{getD, set}
+use Rattle.rules.specs.Limits.{rally, maxJumps}
 use Rattle.plan.specs.declared.Plan.{Plan}
 use Rattle.plan.specs.declared.Run.{Run}
 use Rattle.plan.specs.declared.State.{State}
@@ -39,16 +39,9 @@ pokedPlan p field v =
       upload = pokedUpload (p .upload) field v;
     }
 
--- of a plan the index is the kind; 255 is no field
-unfoldable pub fieldFor : (kind index field : ℕ) → ℕ
-fieldFor kind index field = cond (eqb index kind) field 255
-
+-- of a plan the index is the kind; no other field is a plan's
 unfoldable pub pokedPlans : List Plan → (field index value : ℕ) → List Plan
-pokedPlans plans field index v =
-    pokedPlan (getD plans 0 emptyPlan) (fieldFor 0 index field) v
-    ∷ pokedPlan (getD plans 1 emptyPlan) (fieldFor 1 index field) v
-    ∷ pokedPlan (getD plans 2 emptyPlan) (fieldFor 2 index field) v
-    ∷ []
+pokedPlans plans field index v = cond (leb index rally) (set plans index (pokedPlan (getD plans index emptyPlan) field v)) plans
 
 -- 12 a jump count
 unfoldable pub pokedCounts : List ℕ → (field index value : ℕ) → List ℕ

@@ -2,15 +2,13 @@
 ghost use Prim.Native.Nat.{_%_};
 ghost use mathlib.Core.Path.{_≡_};
 ghost use mathlib.Core.Bool.{cond};
-ghost use Rattle.host.specs.Pokes.{fieldFor, pokedRun, pokedUpload, pokedPlan, pokedPlans, pokedCounts, pokedState};
+ghost use Rattle.host.specs.Pokes.{pokedRun, pokedUpload, pokedPlan, pokedPlans, pokedCounts, pokedState};
 use limits::JUMP_COUNTS;
+use limits::RALLY;
 use plan::Plan;
 use plan::Run;
 use plan::State;
 use plan::Upload;
-
-// No field of a plan.
-const NO_FIELD: u8 = 255;
 
 fn set8(test: bool, value: u32, old: u8) -> u8
     ensures { λ r. ⌜ r ≡ cond test (value % 256) old ⌝ }
@@ -76,35 +74,30 @@ fn poked_upload(upload: Upload, field: u8, value: u32) -> Upload
     }
 }
 
-// The field that is set of a kind's plan, where the index is a kind.
-fn field_for(kind: u8, index: u8, field: u8) -> u8
-    ensures { λ r. ⌜ r ≡ fieldFor kind index field ⌝ }
+fn poked_plan(plan: Plan, field: u8, value: u32) -> Plan
+    ensures { λ r. ⌜ r ≡ pokedPlan plan field value ⌝ }
 {
-    if index == kind { field } else { NO_FIELD }
-}
-
-// The plan of a kind, where the index is the kind.
-fn poked_plan(plan: Plan, kind: u8, index: u8, field: u8, value: u32) -> Plan
-    ensures { λ r. ⌜ r ≡ pokedPlan plan (fieldFor kind index field) value ⌝ }
-{
-    let own = field_for(kind, index, field);
     let before = plan.upload;
-    let upload = poked_upload(before, own, value);
+    let upload = poked_upload(before, field, value);
     Plan {
-        len: set16(own == 0, value, plan.len),
-        half: set_flag(own == 2, value % 2 == 1, plan.half),
-        number: set32(own == 1, value, plan.number),
+        len: set16(field == 0, value, plan.len),
+        half: set_flag(field == 2, value % 2 == 1, plan.half),
+        number: set32(field == 1, value, plan.number),
         upload,
     }
 }
 
+// Of the plans the one whose kind is the index.
 fn poked_plans(plans: [Plan; 3], field: u8, index: u8, value: u32) -> [Plan; 3]
     ensures { λ r. ⌜ r ≡ pokedPlans plans field index value ⌝ }
 {
-    let flight = poked_plan(plans[0], 0, index, field, value);
-    let fence = poked_plan(plans[1], 1, index, field, value);
-    let rally = poked_plan(plans[2], 2, index, field, value);
-    [flight, fence, rally]
+    let kind = index as usize;
+    if index <= RALLY {
+        let mut after = plans;
+        after[kind] = poked_plan(plans[kind], field, value);
+        return after;
+    }
+    plans
 }
 
 fn poked_counts(counts: [u16; JUMP_COUNTS], field: u8, index: u8, value: u32) -> [u16; JUMP_COUNTS]

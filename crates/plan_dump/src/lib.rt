@@ -49,7 +49,10 @@ fn put_upload(out: &mut [u8], at: usize, kind: u8, upload: Upload) -> usize
     ensures { λ r. ⌜ Adds (uploadLine kind upload) (now (out .entry)) at (now (out .exit)) r ⌝ }
 {
     match upload {
-        Upload::Idle => rows::put_line(out, at, b"u", &[kind as u64], b" -", b"", b"\n"),
+        Upload::Idle => {
+            let end = rows::put_begun(out, at, b'u', &[kind as u64]);
+            text::put(out, end, b" -\n")
+        }
         Upload::Running(run) => {
             let list = [
                 kind as u64,

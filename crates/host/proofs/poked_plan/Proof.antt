@@ -4,9 +4,6 @@ use borrow.Author.Needs.{needs}
 use Rattle.host.proofs.poked_plan.Statement.{statement}
 use Rattle.host.proofs.poked_plan.Tie as tie
 
-field-for-requires : tie.Need-field-for-requires
-field-for-requires c κs = search needs
-
 poked-upload-requires : tie.Need-poked-upload-requires
 poked-upload-requires c κs = search needs
 
@@ -24,9 +21,9 @@ returns c =
     let h = c .before in
     let l = h .before in
     let u = l .before in
-    plan-set _ _ _ _ (u .before .field-for .ensures) _ _ _ _ (l .set16 .ensures) (h .set-flag .ensures) (c .set32 .ensures) (u .poked-upload .ensures)
+    plan-set _ _ _ _ _ _ _ (l .set16 .ensures) (h .set-flag .ensures) (c .set32 .ensures) (u .poked-upload .ensures)
 
 pub poked-plan-spec : {M : Type 1} → statement M
 poked-plan-spec =
     tie.close
-    (tie.spec field-for-requires poked-upload-requires set16-requires set-flag-requires set32-requires returns)
+    (tie.spec poked-upload-requires set16-requires set-flag-requires set32-requires returns)

@@ -1,7 +1,6 @@
 -- `plan_dump::put_upload` meets its contract, with and without an upload.
 use mathlib.Core.Path.{refl}
-use Rattle.adding.specs.Added.{each}
-use Rattle.adding.specs.Laws.{adds-as}
+use Rattle.adding.specs.Laws.{adds-both, adds-as}
 use Rattle.plan_dump.specs.Plans.{uploadLine}
 use borrow.Author.Needs.{needs}
 use Rattle.plan_dump.proofs.put_upload.Statement.{statement}
@@ -10,44 +9,38 @@ use Rattle.plan_dump.proofs.put_upload.Tie as tie
 enum-told : tie.Need-enum-told
 enum-told c = search needs
 
-slice-aggregate-put-line : tie.Need-slice-aggregate-put-line
-slice-aggregate-put-line c = refl
+slice-aggregate-put-begun : tie.Need-slice-aggregate-put-begun
+slice-aggregate-put-begun c = refl
 
-slice-aggregate-put-line-2 : tie.Need-slice-aggregate-put-line-2
-slice-aggregate-put-line-2 c = refl
+put-begun-requires : tie.Need-put-begun-requires
+put-begun-requires c κs = tt
 
-slice-aggregate-put-line-3 : tie.Need-slice-aggregate-put-line-3
-slice-aggregate-put-line-3 c = refl
+slice-aggregate-put : tie.Need-slice-aggregate-put
+slice-aggregate-put c = refl
 
-slice-aggregate-put-line-4 : tie.Need-slice-aggregate-put-line-4
-slice-aggregate-put-line-4 c = refl
-
-slice-aggregate-put-line-5 : tie.Need-slice-aggregate-put-line-5
-slice-aggregate-put-line-5 c = refl
-
-put-line-requires : tie.Need-put-line-requires
-put-line-requires c κs = tt
+put-requires : tie.Need-put-requires
+put-requires c κs = tt
 
 enum-known-upload : tie.Need-enum-known-upload
 enum-known-upload c = search needs
 
-cast-t27 : tie.Need-cast-t27
-cast-t27 c = search needs
+cast-t21 : tie.Need-cast-t21
+cast-t21 c = search needs
 
-cast-t28 : tie.Need-cast-t28
-cast-t28 c = search needs
+cast-t22 : tie.Need-cast-t22
+cast-t22 c = search needs
 
-cast-t29 : tie.Need-cast-t29
-cast-t29 c = search needs
+cast-t23 : tie.Need-cast-t23
+cast-t23 c = search needs
 
-cast-t30 : tie.Need-cast-t30
-cast-t30 c = search needs
+cast-t24 : tie.Need-cast-t24
+cast-t24 c = search needs
 
-cast-t31 : tie.Need-cast-t31
-cast-t31 c = search needs
+cast-t25 : tie.Need-cast-t25
+cast-t25 c = search needs
 
-cast-t32 : tie.Need-cast-t32
-cast-t32 c = search needs
+cast-t26 : tie.Need-cast-t26
+cast-t26 c = search needs
 
 slice-aggregate-put-row : tie.Need-slice-aggregate-put-row
 slice-aggregate-put-row c = refl
@@ -59,11 +52,12 @@ same-length : tie.Need-same-length
 same-length c = search needs
 
 returns : tie.Need-returns
-unfolding uploadLine each
+unfolding uploadLine
 returns c =
     let put = c .before .before in
-    let told = put .before .before .before .before .before .before .before in
-    adds-as (uploadLine (told .before .before .before .args .kind)) _ _ (told .enum-told .given .1) (put .put-line .ensures)
+    let begun = put .before .before .before .before .before in
+    let told = begun .before .before .before in
+    adds-as (uploadLine (told .before .before .before .args .kind)) _ _ (told .enum-told .given .1) (adds-both (begun .put-begun .ensures) (put .put .ensures))
 
 same-length-2 : tie.Need-same-length-2
 same-length-2 c = search needs
@@ -80,19 +74,17 @@ put-upload-spec =
     tie.close
     (tie.spec
     enum-told
-    slice-aggregate-put-line
-    slice-aggregate-put-line-2
-    slice-aggregate-put-line-3
-    slice-aggregate-put-line-4
-    slice-aggregate-put-line-5
-    put-line-requires
+    slice-aggregate-put-begun
+    put-begun-requires
+    slice-aggregate-put
+    put-requires
     enum-known-upload
-    cast-t27
-    cast-t28
-    cast-t29
-    cast-t30
-    cast-t31
-    cast-t32
+    cast-t21
+    cast-t22
+    cast-t23
+    cast-t24
+    cast-t25
+    cast-t26
     slice-aggregate-put-row
     put-row-requires
     same-length
