@@ -6,7 +6,7 @@ use native.Mathlib.Numerals.{add-one}
 use native.Mathlib.Omega.{arith}
 use lib.ListN.{length, take, set, getD, length-take, length-append, length-set}
 use lib.Seq.{take-all, take-suc, take-length, take-append-seam, take-suc-set, length-take-le}
-use Rattle.parts.specs.Laws.{front-again}
+use Rattle.adding.specs.Parts.{front-again}
 use Rattle.adding.specs.Added.{added, Adds, each}
 
 take-again : (n : ℕ) (a b : List ℕ) → take n (take n a ++ b) ≡ take n (a ++ b)

@@ -1,7 +1,12 @@
-// Text behind the text so far, which ends at a place. Each function answers where the text then ends; past the buffer's end nothing is kept.
+// Text behind the text so far, which ends at a place, in a lent buffer, and parts of lent slices. What is put answers where the text then ends; past the
+// buffer's end nothing is kept.
+mod parts;
+
+pub use parts::first;
+pub use parts::part;
+pub use parts::within;
 ghost use mathlib.Core.List.{[], _∷_};
 ghost use Rattle.adding.specs.Added.{Adds};
-use parts::within;
 
 pub fn put_byte(out: &mut [u8], at: usize, byte: u8) -> usize
     ensures { λ r. ⌜ Adds (byte ∷ []) (now (out .entry)) at (now (out .exit)) r ⌝ }

@@ -1,6 +1,10 @@
-// The mission item as a struct by value, made of patterns, and its numbers. The values of its fields are read by the crate values; judging it is left to
-// item_rules.
+// The mission item as a struct by value, made of patterns, its numbers, and its 38 bytes. The values of its fields are read by the crate values; judging it
+// is left to item_rules.
+mod payload;
+
 use limits::JUMP;
+pub use payload::item_at;
+pub use payload::item_bytes;
 use values::Whole;
 ghost use mathlib.Core.Path.{_≡_};
 ghost use Rattle.rules.specs.Items.{isJump};

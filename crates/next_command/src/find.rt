@@ -1,7 +1,7 @@
 // Following jumps: at most 64 in one search.
+use command::Command;
 use limits::JUMP_COUNTS;
 use limits::MAX_FOLLOWED;
-use command::Command;
 use plan_search::Met;
 use plan_search::meet;
 ghost use mathlib.Core.Path.{_≡_};

@@ -2,9 +2,9 @@
 // crate plan_search, following jumps is in find.
 mod find;
 
+use command::Command;
 use find::Found;
 use plan::State;
-use command::Command;
 ghost use mathlib.Core.Path.{_≡_};
 ghost use mathlib.Core.Bool.{true, cond};
 ghost use Prim.Native.Nat.{_+_, _≤_, _<_};

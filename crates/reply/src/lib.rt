@@ -2,7 +2,7 @@
 // message. A buffer that is shorter than the message's full length stays as it is.
 ghost use Rattle.wire.specs.Structs.{currentMessage, countMessage, ackMessage, requestIntMessage, itemIntMessage, statustextMessage};
 ghost use Rattle.reply.specs.Written.{Wrote};
-use item_payload::item_bytes;
+use item::item_bytes;
 use payloads::ack_bytes;
 use payloads::count_bytes;
 use payloads::current_bytes;

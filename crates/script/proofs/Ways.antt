@@ -49,9 +49,9 @@ module _ (at len : ℕ) where
   unfolding writeFits
   too-long h = rw (lt-leb len 300 h)
 
-  pub place-fits : (n : ℕ) → n ≡ at → len ≤ 300 → leb n (26880 - len) ≡ writeFits at len
+  pub place-fits : len ≤ 300 → leb at (26880 - len) ≡ writeFits at len
   unfolding writeFits
-  place-fits n is h = rw (is, le-leb len 300 h) (go (leb at (26880 - len)) refl)
+  place-fits h = rw (le-leb len 300 h) (go (leb at (26880 - len)) refl)
     where
       go : (t : Bool) → leb at (26880 - len) ≡ t → leb at (26880 - len) ≡ leb (at + len) 26880
       go true e = e ∙ sym (le-leb (at + len) 26880 (omega (arith, leb-true at (26880 - len) e)))

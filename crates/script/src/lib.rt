@@ -61,18 +61,6 @@ pub enum Next {
     Bad(u8),
 }
 
-fn size(n: u32) -> usize
-    ensures { λ r. ⌜ r ≡ n ⌝ }
-{
-    n as usize
-}
-
-fn payload_size(n: u16) -> usize
-    ensures { λ r. ⌜ r ≡ n ⌝ }
-{
-    n as usize
-}
-
 fn record_in(bytes: &[u8]) -> Record
     ensures { λ r. ⌜ r ≡ recordIn (now (bytes .entry)) ⌝ }
 {
@@ -83,11 +71,11 @@ fn record_in(bytes: &[u8]) -> Record
         b2: byte_at(bytes, 3),
         b3: byte_at(bytes, 4),
         b4: byte_at(bytes, 5),
-        len: payload_size(u16_at(bytes, 6)),
+        len: u16_at(bytes, 6) as usize,
         a: u32_at(bytes, 8),
         clock: u32_at(bytes, 12),
-        store: size(u32_at(bytes, 16)),
-        reply: size(u32_at(bytes, 20)),
+        store: u32_at(bytes, 16) as usize,
+        reply: u32_at(bytes, 20) as usize,
     }
 }
 
@@ -107,7 +95,7 @@ fn write_fits(at: u32, len: usize) -> bool
     if MOST_PAYLOAD < len {
         return false;
     }
-    size(at) <= STORE_ARRAY - len
+    at as usize <= STORE_ARRAY - len
 }
 
 // Whether a record can be played.

@@ -24,7 +24,7 @@ pub fn fetch(store: &[u8], kind: u8, half: bool, n: u16) -> Item
 {
     let at = place_at(kind, half, n);
     let end = at + ITEM_BYTES;
-    item_payload::item_at(&store[at..end])
+    item::item_at(&store[at..end])
 }
 
 // The item becomes the one with a number, and is fetched from there as it was kept; every other byte of the store stays.
@@ -32,6 +32,6 @@ pub fn keep(store: &mut [u8], kind: u8, half: bool, n: u16, item: Item)
     requires { ⌜ (storeBytes ≤ length (now store)) × (kind ≤ rally) × (n < sizeOf kind) ⌝ }
     ensures { λ _. ⌜ (now (store .exit) ≡ putAt (now (store .entry)) half kind n (itemOf (patterns item))) × (itemIn (itemAt (now (store .exit)) half kind n) ≡ patterns item) ⌝ }
 {
-    let bytes = item_payload::item_bytes(NOBODY, NOBODY, NOT_CURRENT, item);
+    let bytes = item::item_bytes(NOBODY, NOBODY, NOT_CURRENT, item);
     put_item(store, place_at(kind, half, n), bytes);
 }

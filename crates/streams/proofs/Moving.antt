@@ -12,7 +12,7 @@ use lib.Seq.{take-suc, take-suc-set, take-take, length-take-le, take-length, get
 use borrow.Rule.Slice.PartMut.{putMid, take-put}
 use borrow.Author.Tests.{leb-true, leb-false, le-leb, lt-leb}
 use Rattle.io.specs.Counts.{Counts}
-use Rattle.parts.specs.Laws.{front-again}
+use Rattle.adding.specs.Parts.{front-again}
 use Rattle.streams.specs.Unread.{unread, Moved, ReadBehind, ReadOn}
 
 -- the first i bytes are those from a place on, and the others as they were

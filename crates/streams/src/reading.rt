@@ -5,7 +5,7 @@ ghost use mathlib.Core.Bool.{_&&_};
 ghost use lib.Dec.{leb};
 ghost use lib.ListN.{length};
 ghost use Rattle.streams.specs.Unread.{Moved, ReadBehind, ReadOn};
-use parts::within;
+use adding::within;
 
 // The part of a buffer that is read and not yet used.
 pub struct Unread {

@@ -1,7 +1,7 @@
 // Standard output from a buffer.
 ghost use mathlib.Core.Path.{_≡_};
 ghost use Rattle.streams.specs.Sent.{sent};
-use parts::within;
+use adding::within;
 
 // Where the text so far leaves less room than asked for, it is written, and the next text begins at the buffer's start. The answer is where the
 // text then ends.

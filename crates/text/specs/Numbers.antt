@@ -60,8 +60,8 @@ module _ (n left first d size : ℕ) (ds : List ℕ) (h : first < size) (long : 
       let room : 0 < first = room-left left first more fits in
       let back : first - 1 + 1 ≡ first = omega arith in
       let next : decimal n ≡ decimal (left / 10) ++ drop first (set ds first d) =
-          so-far
-          ∙ rw (more-digits left more, put-before ds first d (omega arith), is) (append-assoc (decimal (left / 10)) (digit (left % 10) ∷ []) (drop (first + 1) ds)) in
+      so-far
+      ∙ rw (more-digits left more, put-before ds first d (omega arith), is) (append-assoc (decimal (left / 10)) (digit (left % 10) ∷ []) (drop (first + 1) ds)) in
       (omega arith, length-set ds first d ∙ long, rw back (fewer-left left first fits), rw back next)
 
   -- the first of all

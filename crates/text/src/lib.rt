@@ -2,12 +2,12 @@
 // from a buffer and standard input into one are in `streams`.
 mod numerals;
 
+pub use adding::first;
+pub use adding::part;
 pub use adding::put;
 pub use adding::put_byte;
+pub use adding::within;
 pub use numerals::put_hex;
 pub use numerals::put_number;
 pub use numerals::put_numbers;
 pub use numerals::put_shorts;
-pub use parts::first;
-pub use parts::part;
-pub use parts::within;

@@ -5,7 +5,7 @@ ghost use Rattle.adding.specs.Added.{Adds};
 ghost use Rattle.text.specs.Digits.{digit as Digits·digit, decimal, afterSpace, spaced, twoDigits, hex};
 use adding::put;
 use adding::put_byte;
-use parts::within;
+use adding::within;
 
 // No number of 64 bits has more decimal digits.
 const MOST_DIGITS: usize = 20;

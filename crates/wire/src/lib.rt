@@ -3,7 +3,7 @@
 mod read;
 mod structs;
 
-pub use item_payload::item_at;
+pub use item::item_at;
 pub use message_table::ACK_ID;
 pub use message_table::CLEAR_ALL_ID;
 pub use message_table::COUNT_ID;

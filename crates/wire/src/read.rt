@@ -14,7 +14,7 @@ use crate::structs::SetCurrent;
 use fields::byte_at;
 use fields::u16_at;
 use fields::u32_at;
-use item_payload::item_at;
+use item::item_at;
 use message_table::ACK_ID;
 use message_table::CLEAR_ALL_ID;
 use message_table::COUNT_ID;

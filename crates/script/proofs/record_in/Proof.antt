@@ -1,5 +1,4 @@
 -- `script::record_in` meets its contract: each field is the number at its offset.
-use mathlib.Core.Path.{_∙_}
 use Rattle.script.specs.Records.{recordIn}
 use borrow.Author.Needs.{needs}
 use Rattle.script.proofs.record_in.Statement.{statement}
@@ -26,8 +25,8 @@ byte-at-requires-6 c κs = search needs
 u16-at-requires : tie.Need-u16-at-requires
 u16-at-requires c κs = search needs
 
-payload-size-requires : tie.Need-payload-size-requires
-payload-size-requires c κs = search needs
+cast-t9 : tie.Need-cast-t9
+cast-t9 c = search needs
 
 u32-at-requires : tie.Need-u32-at-requires
 u32-at-requires c κs = search needs
@@ -38,23 +37,22 @@ u32-at-requires-2 c κs = search needs
 u32-at-requires-3 : tie.Need-u32-at-requires-3
 u32-at-requires-3 c κs = search needs
 
-size-requires : tie.Need-size-requires
-size-requires c κs = search needs
+cast-t13 : tie.Need-cast-t13
+cast-t13 c = search needs
 
 u32-at-requires-4 : tie.Need-u32-at-requires-4
 u32-at-requires-4 c κs = search needs
 
-size-requires-2 : tie.Need-size-requires-2
-size-requires-2 c κs = search needs
+cast-t15 : tie.Need-cast-t15
+cast-t15 c = search needs
 
 returns : tie.Need-returns
 unfolding recordIn
 returns c =
-    let reply = c .before in
-    let store = reply .before .before in
+    let store = c .before in
     let clock = store .before in
     let a = clock .before in
-    let len = a .before .before in
+    let len = a .before in
     let b4 = len .before in
     let b3 = b4 .before in
     let b2 = b3 .before in
@@ -67,11 +65,11 @@ returns c =
       b2 = (b2 .byte-at4 .ensures) i;
       b3 = (b3 .byte-at5 .ensures) i;
       b4 = (b4 .byte-at6 .ensures) i;
-      len = (a .before .payload-size .ensures ∙ len .u16-at .ensures) i;
+      len = (len .u16-at .ensures) i;
       a = (a .u32-at .ensures) i;
       clock = (clock .u32-at2 .ensures) i;
-      store = (reply .before .size .ensures ∙ store .u32-at3 .ensures) i;
-      reply = (c .size2 .ensures ∙ reply .u32-at4 .ensures) i;
+      store = (store .u32-at3 .ensures) i;
+      reply = (c .u32-at4 .ensures) i;
     }
 
 pub record-in-spec : {M : Type 1} → statement M
@@ -85,11 +83,11 @@ record-in-spec =
     byte-at-requires-5
     byte-at-requires-6
     u16-at-requires
-    payload-size-requires
+    cast-t9
     u32-at-requires
     u32-at-requires-2
     u32-at-requires-3
-    size-requires
+    cast-t13
     u32-at-requires-4
-    size-requires-2
+    cast-t15
     returns)

@@ -1,14 +1,14 @@
--- `item_payload::item_bytes` meets its contract: each field is its own bytes, in the layout's order, and fits by its type.
+-- `item::payload::item_bytes` meets its contract: each field is its own bytes, in the layout's order, and fits by its type.
 use Prim.Native.Nat.{_<_}
 use mathlib.Core.List.{[], _++_}
 use Rattle.rules.specs.Layouts.{layoutOf, pack}
 use Rattle.rules.specs.Messages.{station, itemInt, encode}
 use Rattle.rule_laws.specs.Fitting.{Fits}
 use Rattle.item.specs.Patterns.{patterns}
 use Rattle.fields.specs.Packed.{one-byte}
 use borrow.Author.Needs.{needs}
-use Rattle.item_payload.proofs.item_bytes.Statement.{statement}
-use Rattle.item_payload.proofs.item_bytes.Tie as tie
+use Rattle.item.proofs.payload.item_bytes.Statement.{statement}
+use Rattle.item.proofs.payload.item_bytes.Tie as tie
 
 bytes32-requires : tie.Need-bytes32-requires
 bytes32-requires c κs = search needs

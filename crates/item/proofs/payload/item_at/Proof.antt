@@ -1,13 +1,13 @@
--- `item_payload::item_at` meets its contract: the item is made of the numbers at its fields' offsets.
+-- `item::payload::item_at` meets its contract: the item is made of the numbers at its fields' offsets.
 use mathlib.Core.Path.{_∙_}
 use denote.Ref.{now}
 use Rattle.rules.specs.Layouts.{layoutOf, values}
 use Rattle.rules.specs.Messages.{itemIn}
 use Rattle.item.specs.Patterns.{itemFor}
 use Rattle.fields.specs.Numbers.{as-number}
 use borrow.Author.Needs.{needs}
-use Rattle.item_payload.proofs.item_at.Statement.{statement}
-use Rattle.item_payload.proofs.item_at.Tie as tie
+use Rattle.item.proofs.payload.item_at.Statement.{statement}
+use Rattle.item.proofs.payload.item_at.Tie as tie
 
 u32-at-requires : tie.Need-u32-at-requires
 u32-at-requires c κs = search needs

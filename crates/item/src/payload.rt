@@ -1,21 +1,22 @@
 // An item in the 38 bytes of ITEM_INT: read from a payload or a stored item, and written from the item's patterns.
 ghost use mathlib.Core.Path.{_≡_};
 ghost use Rattle.rules.specs.Messages.{station, itemInt, itemIn};
 ghost use Rattle.item.specs.Patterns.{itemFor, patterns};
 ghost use Rattle.fields.specs.Packed.{BytesOf};
+use crate::Item;
+use crate::made;
 use fields::byte_at;
 use fields::bytes16;
 use fields::bytes32;
 use fields::u16_at;
 use fields::u32_at;
-use item::Item;
 use limits::ITEM_BYTES;
 
 // The item in a payload of ITEM_INT, or in the 38 bytes of a stored item.
 pub fn item_at(p: &[u8]) -> Item
     ensures { λ r. ⌜ r ≡ itemFor (itemIn (now (p .entry))) ⌝ }
 {
-    item::made(
+    made(
         u32_at(p, 0),
         u32_at(p, 4),
         u32_at(p, 8),

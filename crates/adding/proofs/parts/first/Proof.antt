@@ -1,9 +1,9 @@
--- `parts::first` meets its contract.
+-- `adding::parts::first` meets its contract.
 use denote.Ref.{now}
-use Rattle.parts.specs.Laws.{counted, all-front}
+use Rattle.adding.specs.Parts.{counted, all-front}
 use borrow.Author.Needs.{needs}
-use Rattle.parts.proofs.first.Statement.{statement}
-use Rattle.parts.proofs.first.Tie as tie
+use Rattle.adding.proofs.parts.first.Statement.{statement}
+use Rattle.adding.proofs.parts.first.Tie as tie
 
 slice-aggregate-result : tie.Need-slice-aggregate-result
 slice-aggregate-result c = let a = c .before .before .args in counted (a .n) (now (a .list)) (c .before .if1 .taken)

@@ -1,9 +1,9 @@
--- `parts::part` meets its contract.
+-- `adding::parts::part` meets its contract.
 use denote.Ref.{now}
-use Rattle.parts.specs.Laws.{some-part, whole-part}
+use Rattle.adding.specs.Parts.{some-part, whole-part}
 use borrow.Author.Needs.{needs}
-use Rattle.parts.proofs.part.Statement.{statement}
-use Rattle.parts.proofs.part.Tie as tie
+use Rattle.adding.proofs.parts.part.Statement.{statement}
+use Rattle.adding.proofs.parts.part.Tie as tie
 
 within-requires : tie.Need-within-requires
 within-requires c κs = search needs

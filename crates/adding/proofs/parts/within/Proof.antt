@@ -1,10 +1,10 @@
--- `parts::within` meets its contract.
+-- `adding::parts::within` meets its contract.
 use native.Mathlib.Omega.{arith}
 use lib.ListN.{length}
 use denote.Ref.{now}
-use Rattle.parts.specs.Laws.{within-place}
-use Rattle.parts.proofs.within.Statement.{statement}
-use Rattle.parts.proofs.within.Tie as tie
+use Rattle.adding.specs.Parts.{within-place}
+use Rattle.adding.proofs.parts.within.Statement.{statement}
+use Rattle.adding.proofs.parts.within.Tie as tie
 
 returns : tie.Need-returns
 returns c = let a = c .before .args in within-place (a .at) (a .at) (now (a .out)) (omega arith)

@@ -1,2 +1,0 @@
--- What the proofs over parts of slices cite.
-pub mod Laws
