@@ -1,2 +1,3 @@
 -- Laws that the proofs cite.
+mod PlanWays
 mod Ways

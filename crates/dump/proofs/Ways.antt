@@ -1,8 +1,11 @@
 -- The lines of a dump, part by part.
-use Prim.Native.Nat.{ℕ}
-use mathlib.Core.Path.{_≡_, ap, subst, _∙_}
-use mathlib.Core.Bool.{Bool, true, false, cond}
+use Prim.Native.Nat.{ℕ, _*_}
+use mathlib.Core.Path.{_≡_, subst}
+use mathlib.Core.Bool.{Bool, true, false, not}
 use mathlib.Core.List.{List, [], _∷_}
+use mir.Syntax.{w64}
+use mir.Val.{Fits, boolByte}
+use borrow.Author.Needs.{needs}
 use Rattle.rules.specs.Limits.{flight, fence, rally}
 use Rattle.rules.specs.Payload.{Bytes}
 use Rattle.rules.specs.Model.{inRange}
@@ -12,46 +15,42 @@ use Rattle.adding.specs.Added.{Adds, each}
 use Rattle.adding.specs.Laws.{adds-both}
 use Rattle.text.specs.Digits.{digit, decimalIn, spaced}
 use Rattle.rows.specs.Rows.{begun, row}
-use Rattle.plan_dump.specs.Plans.{flag, kindText}
+use Rattle.dump.specs.Plans.{kindText}
+use Rattle.dump.proofs.PlanWays.{flag-byte}
 use Rattle.dump.specs.Dumps.{currentLine, stateText, dumpText}
 
-module _ (before after : List ℕ) (at r : ℕ) where
+pub outcome-fits : (b : Bool) → Fits w64 (15 * boolByte b)
+outcome-fits true = search needs
+outcome-fits false = search needs
+
+module _ (st : State) (store : Bytes) (ranged : Bool) (is : ranged ≡ inRange (view st store)) where
   pub out-of-range
-      : (st : State) (store : Bytes) (ranged : Bool) (outcome : ℕ)
-      → ranged ≡ inRange (view st store)
-      → ranged ≡ false
-      → outcome ≡ cond ranged 0 15
-      → Adds (row 68 (outcome ∷ [])) before at after r
-      → Adds (dumpText st store) before at after r
+      : (before after : List ℕ) (at r : ℕ) → ranged ≡ false → Adds (row 68 (15 * boolByte (not ranged) ∷ [])) before at after r → Adds (dumpText st store) before at after r
   unfolding dumpText each decimalIn digit
-  out-of-range st store ranged outcome is e o adds =
-      let fifteen : Adds (row 68 (15 ∷ [])) before at after r = subst (λ (n : ℕ). Adds (row 68 (n ∷ [])) before at after r) (o ∙ ap (λ (b : Bool). cond b 0 15) e) adds in
+  out-of-range before after at r e adds =
+      let fifteen : Adds (row 68 (15 ∷ [])) before at after r = subst (λ (b : Bool). Adds (row 68 (15 * boolByte (not b) ∷ [])) before at after r) e adds in
       rw (← is, e) fifteen
 
-module _ (before between after : List ℕ) (at i r : ℕ) where
   pub in-range
-      : (st : State) (store : Bytes) (ranged : Bool) (outcome : ℕ)
-      → ranged ≡ inRange (view st store)
+      : (before between after : List ℕ) (at i r : ℕ)
       → ranged ≡ true
-      → outcome ≡ cond ranged 0 15
-      → Adds (row 68 (outcome ∷ [])) before at between i
+      → Adds (row 68 (15 * boolByte (not ranged) ∷ [])) before at between i
       → Adds (stateText st store) between i after r
       → Adds (dumpText st store) before at after r
   unfolding dumpText each decimalIn digit
-  in-range st store ranged outcome is e o a b =
-      let zeroth : Adds (row 68 (0 ∷ [])) before at between i = subst (λ (n : ℕ). Adds (row 68 (n ∷ [])) before at between i) (o ∙ ap (λ (b : Bool). cond b 0 15) e) a in
-      rw (← is, e) (adds-both zeroth b)
+  in-range before between after at i r e a b =
+      let none : Adds (row 68 (0 ∷ [])) before at between i = subst (λ (b : Bool). Adds (row 68 (15 * boolByte (not b) ∷ [])) before at between i) e a in
+      rw (← is, e) (adds-both none b)
 
 module _ (before second third after : List ℕ) (at i j r : ℕ) where
   pub current-line
-      : (current : ℕ) (isBegun : Bool) (counts : List ℕ) (f : ℕ)
-      → f ≡ flag isBegun
-      → Adds (begun 99 (current ∷ f ∷ [])) before at second i
+      : (current : ℕ) (isBegun : Bool) (counts : List ℕ)
+      → Adds (begun 99 (current ∷ boolByte isBegun ∷ [])) before at second i
       → Adds (spaced counts) second i third j
       → Adds (10 ∷ []) third j after r
       → Adds (currentLine current isBegun counts) before at after r
   unfolding currentLine
-  current-line current isBegun counts f e a b c = rw (← e) (adds-both a (adds-both b c))
+  current-line current isBegun counts a b c = rw (← flag-byte isBegun) (adds-both a (adds-both b c))
 
 pub state-text
     : (st : State) (store : Bytes) (before second third fourth after : List ℕ) (at i j k r : ℕ)

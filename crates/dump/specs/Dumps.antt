@@ -10,7 +10,7 @@ use Rattle.plan.specs.View.{planOf, view}
 use Rattle.text.specs.Words.{ascii}
 use Rattle.text.specs.Digits.{spaced}
 use Rattle.rows.specs.Rows.{begun}
-use Rattle.plan_dump.specs.Plans.{flag, kindText}
+use Rattle.dump.specs.Plans.{flag, kindText}
 
 -- "`c CURRENT BEGUN C0 C1 .. C14`"
 unfoldable pub currentLine : (current : ℕ) (begun : Bool) (counts : List ℕ) → Bytes

@@ -1,2 +1,3 @@
 -- The lines of a dump.
+pub mod Plans
 pub mod Dumps

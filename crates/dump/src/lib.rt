@@ -1,4 +1,6 @@
 // The lines of a dump: the plans and uploads of each kind, and the current item.
+mod plans;
+
 ghost use Rattle.adding.specs.Added.{Adds};
 ghost use Rattle.dump.specs.Dumps.{currentLine, stateText, dumpText};
 use limits::FENCE;
@@ -6,8 +8,10 @@ use limits::FLIGHT;
 use limits::JUMP_COUNTS;
 use limits::RALLY;
 use plan::State;
-use plan_dump::either;
-use plan_dump::put_kind;
+use plans::put_kind;
+
+// The outcome of a call whose state has a number out of its range.
+const OUT_OF_RANGE: u64 = 15;
 
 // The current item, whether it is begun, and the jump counts.
 fn put_current(
@@ -19,7 +23,7 @@ fn put_current(
 ) -> usize
     ensures { λ r. ⌜ Adds (currentLine current begun counts) (now (out .entry)) at (now (out .exit)) r ⌝ }
 {
-    let list = [current as u64, either(begun, 1, 0)];
+    let list = [current as u64, begun as u64];
     let end = rows::put_begun(out, at, b'c', &list);
     let end = text::put_shorts(out, end, &counts);
     text::put_byte(out, end, b'\n')
@@ -41,7 +45,7 @@ pub fn put_dump(out: &mut [u8], at: usize, state: State, store: &[u8]) -> usize
     ensures { λ r. ⌜ Adds (dumpText state (now (store .entry))) (now (out .entry)) at (now (out .exit)) r ⌝ }
 {
     let ranged = ranges::ranged(state);
-    let end = rows::put_row(out, at, b'D', &[either(ranged, 0, 15)]);
+    let end = rows::put_row(out, at, b'D', &[OUT_OF_RANGE * (!ranged) as u64]);
     if !ranged {
         return end;
     }

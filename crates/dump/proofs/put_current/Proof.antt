@@ -4,8 +4,8 @@ use borrow.Author.Needs.{needs}
 use Rattle.dump.proofs.put_current.Statement.{statement}
 use Rattle.dump.proofs.put_current.Tie as tie
 
-either-requires : tie.Need-either-requires
-either-requires c κs = search needs
+cast-t11 : tie.Need-cast-t11
+cast-t11 c = tt
 
 slice-aggregate-put-begun : tie.Need-slice-aggregate-put-begun
 slice-aggregate-put-begun c = search needs
@@ -26,13 +26,17 @@ same-length : tie.Need-same-length
 same-length c = search needs
 
 returns : tie.Need-returns
-returns c = search (current-line, needs)
+returns c =
+    let e = c .before .before in
+    let n = e .before .before .before .before in
+    let b = n .before .before .before .before .before in
+    current-line _ _ _ _ _ _ _ _ _ _ _ (b .put-begun .ensures) (n .put-shorts .ensures) (e .put-byte .ensures)
 
 pub put-current-spec : {M : Type 1} → statement M
 put-current-spec =
     tie.close
     (tie.spec
-    either-requires
+    cast-t11
     slice-aggregate-put-begun
     put-begun-requires
     slice-aggregate-put-shorts

@@ -1,5 +1,6 @@
 -- `dump::put_dump` meets its contract, in range and out of it.
-use Rattle.dump.proofs.Ways.{out-of-range, in-range}
+use Rattle.dump.proofs.Ways.{outcome-fits, out-of-range, in-range}
+use mathlib.Core.Bool.{not}
 use denote.Ref.{now}
 use borrow.Author.Needs.{needs}
 use borrow.Author.Tests.{not-true, not-false}
@@ -9,8 +10,11 @@ use Rattle.dump.proofs.put_dump.Tie as tie
 ranged-requires : tie.Need-ranged-requires
 ranged-requires c κs = search needs
 
-either-requires : tie.Need-either-requires
-either-requires c κs = search needs
+cast-t11 : tie.Need-cast-t11
+cast-t11 c = tt
+
+mul-t12 : tie.Need-mul-t12
+mul-t12 c = outcome-fits (not (c .before .ranged .result))
 
 slice-aggregate-put-row : tie.Need-slice-aggregate-put-row
 slice-aggregate-put-row c = search needs
@@ -24,10 +28,9 @@ same-length c = search needs
 returns : tie.Need-returns
 returns c =
     let p = c .before .before .before in
-    let o = p .before .before in
-    let g = o .before .before in
+    let g = p .before .before .before in
     let a = g .before .before .before .args in
-    out-of-range _ _ _ _ (a .state) (now (a .store)) (g .ranged .result) (o .either .result) (g .ranged .ensures .0 (now (a .store))) (not-true _ (c .if1 .taken)) (o .either .ensures) (p .put-row .ensures)
+    out-of-range (a .state) (now (a .store)) (g .ranged .result) (g .ranged .ensures .0 (now (a .store))) _ _ _ _ (not-true _ (c .if1 .taken)) (p .put-row .ensures)
 
 put-state-requires : tie.Need-put-state-requires
 put-state-requires c κs = search needs
@@ -40,17 +43,17 @@ returns-2 c =
     let s = c .before .before in
     let i = s .before .before in
     let p = i .before .before .before in
-    let o = p .before .before in
-    let g = o .before .before in
+    let g = p .before .before .before in
     let a = g .before .before .before .args in
-    in-range _ _ _ _ _ _ (a .state) (now (a .store)) (g .ranged .result) (o .either .result) (g .ranged .ensures .0 (now (a .store))) (not-false _ (i .if1 .left)) (o .either .ensures) (p .put-row .ensures) (s .put-state .ensures)
+    in-range (a .state) (now (a .store)) (g .ranged .result) (g .ranged .ensures .0 (now (a .store))) _ _ _ _ _ _ (not-false _ (i .if1 .left)) (p .put-row .ensures) (s .put-state .ensures)
 
 pub put-dump-spec : {M : Type 1} → statement M
 put-dump-spec =
     tie.close
     (tie.spec
     ranged-requires
-    either-requires
+    cast-t11
+    mul-t12
     slice-aggregate-put-row
     put-row-requires
     same-length

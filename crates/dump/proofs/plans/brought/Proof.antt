@@ -1,8 +1,8 @@
--- `plan_dump::brought` meets its contract, with and without an upload.
-use Rattle.plan_dump.proofs.Ways.{brought-none, brought-some}
+-- `dump::plans::brought` meets its contract, with and without an upload.
+use Rattle.dump.proofs.PlanWays.{brought-none, brought-some}
 use borrow.Author.Needs.{needs}
-use Rattle.plan_dump.proofs.brought.Statement.{statement}
-use Rattle.plan_dump.proofs.brought.Tie as tie
+use Rattle.dump.proofs.plans.brought.Statement.{statement}
+use Rattle.dump.proofs.plans.brought.Tie as tie
 
 enum-told : tie.Need-enum-told
 enum-told c = search needs

@@ -1,12 +1,12 @@
--- `plan_dump::put_items` meets its contract. The loop's invariant: the lines of the first n items are added.
+-- `dump::plans::put_items` meets its contract. The loop's invariant: the lines of the first n items are added.
 use Prim.Native.Nat.{_-_, _≤_}
 use borrow.Author.Needs.{needs}
 use Rattle.adding.specs.Added.{Adds}
 use Rattle.adding.specs.Laws.{adds-nothing}
-use Rattle.plan_dump.specs.Plans.{itemLines}
-use Rattle.plan_dump.proofs.Ways.{items-more, all-items}
-use Rattle.plan_dump.proofs.put_items.Statement.{statement}
-use Rattle.plan_dump.proofs.put_items.Tie as tie
+use Rattle.dump.specs.Plans.{itemLines}
+use Rattle.dump.proofs.PlanWays.{items-more, all-items}
+use Rattle.dump.proofs.plans.put_items.Statement.{statement}
+use Rattle.dump.proofs.plans.put_items.Tie as tie
 
 abbrev Inv-loop : tie.InvT-loop
 Inv-loop out₀ at letter kind half count store end₀ n₀ out end n = (n ≤ count) × Adds (itemLines letter kind half store n) out₀ at out end

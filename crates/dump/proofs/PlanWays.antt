@@ -1,11 +1,12 @@
 -- The lines of one kind, part by part.
 use Prim.Native.Nat.{ℕ, _+_, _≤_}
-use mathlib.Core.Path.{_≡_}
-use mathlib.Core.Bool.{Bool, not}
+use mathlib.Core.Path.{_≡_, refl}
+use mathlib.Core.Bool.{Bool, true, false, not}
 use mathlib.Core.List.{List, [], _∷_}
 use native.Mathlib.Numerals.{add-one}
 use native.Mathlib.Omega.{arith}
 use lib.ListN.{take, drop}
+use mir.Val.{boolByte}
 use Rattle.rules.specs.Limits.{itemBytes}
 use Rattle.rules.specs.Payload.{Bytes}
 use Rattle.rules.specs.Model.{shownNumber}
@@ -16,10 +17,14 @@ use Rattle.plan.specs.declared.Upload.the-variants.{Idle, Running}
 use Rattle.places.specs.Part.{part}
 use Rattle.places.specs.Places.{offsetOf, itemAt}
 use Rattle.adding.specs.Added.{Adds}
-use Rattle.adding.specs.Laws.{adds-both, adds-after}
-use Rattle.text.specs.Digits.{hex}
-use Rattle.rows.specs.Rows.{begun, row}
-use Rattle.plan_dump.specs.Plans.{itemLine, itemLines, flag, uploadLine, brought, planLine, kindText}
+use Rattle.adding.specs.Laws.{adds-both}
+use Rattle.rows.specs.Rows.{row}
+use Rattle.dump.specs.Plans.{itemLine, itemLines, flag, uploadLine, brought, planLine, kindText}
+
+-- a flag is shown as the byte that the code holds it in
+pub flag-byte : (b : Bool) → boolByte b ≡ flag b
+flag-byte true = refl
+flag-byte false = refl
 
 pub brought-none : (u : Upload) → u ≡ Idle → 0 ≡ brought u
 unfolding brought
@@ -28,15 +33,6 @@ brought-none u e = rw e
 pub brought-some : (u : Upload) (r : Run) → u ≡ Running r → r .next ≡ brought u
 unfolding brought
 brought-some u r e = rw e
-
-pub item-line
-    : (letter kind n : ℕ) (bytes before second third fourth after : List ℕ) (at i j k r : ℕ)
-    → Adds (begun letter (kind ∷ n ∷ [])) before at second i
-    → Adds (32 ∷ []) second i third j
-    → Adds (hex bytes) third j fourth k
-    → Adds (10 ∷ []) fourth k after r
-    → Adds (itemLine letter kind n bytes) before at after r
-item-line letter kind n bytes before second third fourth after at i j k r a b c d = adds-both a (adds-after 32 _ b (adds-both c d))
 
 pub items-more
     : (letter kind : ℕ) (half : Bool) (store : Bytes) (n first : ℕ) (bytes before between after : List ℕ) (at i r : ℕ)
@@ -58,14 +54,13 @@ all-items letter kind half store n count before after at r most least adds = let
 
 module _ (before between after : List ℕ) (at i r : ℕ) where
   pub plan-line
-      : (kind : ℕ) (p : Plan) (shown half : ℕ)
+      : (kind : ℕ) (p : Plan) (shown : ℕ)
       → shown ≡ shownNumber (p .len) (p .number)
-      → half ≡ flag (p .half)
-      → Adds (row 107 (kind ∷ p .len ∷ p .number ∷ shown ∷ half ∷ [])) before at between i
+      → Adds (row 107 (kind ∷ p .len ∷ p .number ∷ shown ∷ boolByte (p .half) ∷ [])) before at between i
       → Adds (uploadLine kind (p .upload)) between i after r
       → Adds (planLine kind p) before at after r
   unfolding planLine
-  plan-line kind p shown half s h a b = rw (← s, ← h) (adds-both a b)
+  plan-line kind p shown s a b = rw (← s, ← flag-byte (p .half)) (adds-both a b)
 
 module _ (before second third after : List ℕ) (at i j r : ℕ) where
   pub kind-text

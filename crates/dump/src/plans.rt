@@ -1,8 +1,7 @@
 // The lines of one kind in a dump: its plan, its upload, and the items of both.
 ghost use mathlib.Core.Path.{_≡_};
-ghost use mathlib.Core.Bool.{cond};
 ghost use Rattle.adding.specs.Added.{Adds};
-ghost use Rattle.plan_dump.specs.Plans.{itemLine, itemLines, brought as Plans·brought, uploadLine, planLine, kindText};
+ghost use Rattle.dump.specs.Plans.{itemLine, itemLines, brought as Plans·brought, uploadLine, planLine, kindText};
 use limits::ITEM_BYTES;
 use plan::Plan;
 use plan::Upload;
@@ -36,13 +35,6 @@ fn put_items(
         n += 1;
     }
     end
-}
-
-// One number or another.
-pub fn either(b: bool, yes: u64, no: u64) -> u64
-    ensures { λ r. ⌜ r ≡ cond b yes no ⌝ }
-{
-    if b { yes } else { no }
 }
 
 fn put_upload(out: &mut [u8], at: usize, kind: u8, upload: Upload) -> usize
@@ -86,7 +78,7 @@ fn put_plan(out: &mut [u8], at: usize, kind: u8, plan: Plan) -> usize
         plan.len as u64,
         plan.number as u64,
         plan::number_shown(plan) as u64,
-        either(plan.half, 1, 0),
+        plan.half as u64,
     ];
     let end = rows::put_row(out, at, b'k', &list);
     let upload = plan.upload;

@@ -1,10 +1,10 @@
--- `plan_dump::put_upload` meets its contract, with and without an upload.
+-- `dump::plans::put_upload` meets its contract, with and without an upload.
 use mathlib.Core.Path.{refl}
 use Rattle.adding.specs.Laws.{adds-both, adds-as}
-use Rattle.plan_dump.specs.Plans.{uploadLine}
+use Rattle.dump.specs.Plans.{uploadLine}
 use borrow.Author.Needs.{needs}
-use Rattle.plan_dump.proofs.put_upload.Statement.{statement}
-use Rattle.plan_dump.proofs.put_upload.Tie as tie
+use Rattle.dump.proofs.plans.put_upload.Statement.{statement}
+use Rattle.dump.proofs.plans.put_upload.Tie as tie
 
 enum-told : tie.Need-enum-told
 enum-told c = search needs

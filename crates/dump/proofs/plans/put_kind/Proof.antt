@@ -1,8 +1,8 @@
--- `plan_dump::put_kind` meets its contract: the plan, then the items of both halves.
-use Rattle.plan_dump.proofs.Ways.{kind-text}
+-- `dump::plans::put_kind` meets its contract: the plan, then the items of both halves.
+use Rattle.dump.proofs.PlanWays.{kind-text}
 use borrow.Author.Needs.{needs}
-use Rattle.plan_dump.proofs.put_kind.Statement.{statement}
-use Rattle.plan_dump.proofs.put_kind.Tie as tie
+use Rattle.dump.proofs.plans.put_kind.Statement.{statement}
+use Rattle.dump.proofs.plans.put_kind.Tie as tie
 
 put-plan-requires : tie.Need-put-plan-requires
 put-plan-requires c κs = search needs

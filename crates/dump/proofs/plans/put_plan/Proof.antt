@@ -1,8 +1,8 @@
--- `plan_dump::put_plan` meets its contract: the plan's line, then the upload's.
-use Rattle.plan_dump.proofs.Ways.{plan-line}
+-- `dump::plans::put_plan` meets its contract: the plan's line, then the upload's.
+use Rattle.dump.proofs.PlanWays.{plan-line}
 use borrow.Author.Needs.{needs}
-use Rattle.plan_dump.proofs.put_plan.Statement.{statement}
-use Rattle.plan_dump.proofs.put_plan.Tie as tie
+use Rattle.dump.proofs.plans.put_plan.Statement.{statement}
+use Rattle.dump.proofs.plans.put_plan.Tie as tie
 
 cast-t9 : tie.Need-cast-t9
 cast-t9 c = search needs
@@ -16,8 +16,8 @@ number-shown-requires c κs = search needs
 cast-t12 : tie.Need-cast-t12
 cast-t12 c = search needs
 
-either-requires : tie.Need-either-requires
-either-requires c κs = search needs
+cast-t13 : tie.Need-cast-t13
+cast-t13 c = tt
 
 slice-aggregate-put-row : tie.Need-slice-aggregate-put-row
 slice-aggregate-put-row c = search needs
@@ -35,9 +35,8 @@ returns : tie.Need-returns
 returns c =
     let u = c .before .before in
     let r = u .before .before .before .before in
-    let f = r .before .before .before in
-    let a = f .before .before .before .before .before .args in
-    plan-line _ _ _ _ _ _ _ (a .plan) (f .before .number-shown .result) (f .either .result) (f .before .number-shown .ensures) (f .either .ensures) (r .put-row .ensures) (u .put-upload .ensures)
+    let n = r .before .before .before .before in
+    plan-line _ _ _ _ _ _ _ (n .before .before .before .before .args .plan) (n .number-shown .result) (n .number-shown .ensures) (r .put-row .ensures) (u .put-upload .ensures)
 
 pub put-plan-spec : {M : Type 1} → statement M
 put-plan-spec =
@@ -47,7 +46,7 @@ put-plan-spec =
     cast-t10
     number-shown-requires
     cast-t12
-    either-requires
+    cast-t13
     slice-aggregate-put-row
     put-row-requires
     put-upload-requires

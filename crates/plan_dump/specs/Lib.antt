@@ -1,2 +1,0 @@
--- The lines of one kind in a dump.
-pub mod Plans
