@@ -33,19 +33,6 @@ fn message(id: u32, from: usize, len: usize, room: usize, numbers: usize) -> Cas
     }
 }
 
-// A message of this full length is read and written in every length.
-fn lengths(id: u32, len: usize) -> Case {
-    Case {
-        letter: LENGTHS,
-        numbers: 2,
-        id,
-        from: 0,
-        len,
-        meant: 0,
-        room: 0,
-    }
-}
-
 // A float's pattern, and the whole number that is meant by it.
 fn whole(id: u32, meant: i32) -> Case {
     Case {
@@ -59,40 +46,31 @@ fn whole(id: u32, meant: i32) -> Case {
     }
 }
 
-// A message, buffers one byte short for it and just long enough, and how many numbers it has.
-struct Rooms {
-    id: u32,
-    short: usize,
-    full: usize,
-    numbers: usize,
-}
-
-fn bounds(id: u32, short: usize, full: usize, numbers: usize) -> Rooms {
-    Rooms {
-        id,
-        short,
-        full,
-        numbers,
-    }
-}
-
-fn rooms_of(i: usize) -> Rooms {
+// Four lines of a message, for which a buffer is one byte short or just long enough: every length; then no bytes at all, and the two buffers, of which the
+// short one stays as it is.
+fn in_lengths(i: usize, id: u32, short: usize, full: usize, numbers: usize) -> Case {
     match i {
-        0 => bounds(wire::COUNT_ID, 8, 9, 7),
-        1 => bounds(wire::ACK_ID, 7, 8, 7),
-        2 => bounds(wire::REQUEST_INT_ID, 4, 5, 6),
-        _ => bounds(wire::ITEM_INT_ID, 37, 38, 17),
+        0 => Case {
+            letter: LENGTHS,
+            numbers: 2,
+            id,
+            from: 0,
+            len: full,
+            meant: 0,
+            room: 0,
+        },
+        1 => message(id, 0, 0, 60, numbers),
+        2 => message(id, 0, LONGEST, short, numbers),
+        _ => message(id, 0, LONGEST, full, numbers),
     }
 }
 
-// Four lines of a message: every length; then no bytes at all, and buffers one byte short, which stay as they are, and just long enough.
 fn length_case(i: usize) -> Case {
-    let m = rooms_of(i / 4);
-    match i % 4 {
-        0 => lengths(m.id, m.full),
-        1 => message(m.id, 0, 0, 60, m.numbers),
-        2 => message(m.id, 0, LONGEST, m.short, m.numbers),
-        _ => message(m.id, 0, LONGEST, m.full, m.numbers),
+    match i / 4 {
+        0 => in_lengths(i % 4, wire::COUNT_ID, 8, 9, 7),
+        1 => in_lengths(i % 4, wire::ACK_ID, 7, 8, 7),
+        2 => in_lengths(i % 4, wire::REQUEST_INT_ID, 4, 5, 6),
+        _ => in_lengths(i % 4, wire::ITEM_INT_ID, 37, 38, 17),
     }
 }
 

@@ -15,23 +15,14 @@ const TEST_VALUES: [u8; TESTS] = *b"\x53\x43\x8b\xce\
     \x00\x00\x88\x41\x00\x00\x34\x42\x00\x00\x92\x42\x00\x00\xca\x42\x38\xd1\x6d\x39\x08\xd2\x6d\x39\x00\x00\x39\x43\x03\x49\x6b\x49\x65\xa8\xeb\x2e\x71\xb4\
     \x01\x00\xc0\x7f\x01\x00\x80\x7f\x45\x23\xc1\xff\xff\xff\xff\xff\x00\x00\x00\x80\xff\xff\xff\xff\x00\x00\x00\x80\x03\x00\x10\x00\x00\x00\x06\x00\x01\x00";
 
-fn test_values() -> [u8; TESTS] {
-    TEST_VALUES
-}
-
-fn counted() -> [u8; ALL] {
+pub fn payloads() -> [u8; ALL] {
     let mut p = [0u8; ALL];
     let mut i = 0;
     while i < LONGEST {
         p[i] = (i % 255 + 1) as u8;
         i += 1;
     }
-    p
-}
-
-pub fn payloads() -> [u8; ALL] {
-    let mut p = counted();
-    let tests = test_values();
+    let tests = TEST_VALUES;
     writing::write(&mut p, LONGEST, &tests);
     p
 }

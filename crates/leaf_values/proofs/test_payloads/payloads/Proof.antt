@@ -1,11 +1,13 @@
--- `leaf_values::test_payloads::counted` meets its contract: `i` stays at most 300.
+-- `leaf_values::test_payloads::payloads` meets its contract: `i` stays at most 300.
 use Prim.Native.Nat.{_-_, _≤_}
+use mathlib.Core.Path.{_≡_}
+use lib.ListN.{length}
 use borrow.Author.Needs.{needs}
-use Rattle.leaf_values.proofs.test_payloads.counted.Statement.{statement}
-use Rattle.leaf_values.proofs.test_payloads.counted.Tie as tie
+use Rattle.leaf_values.proofs.test_payloads.payloads.Statement.{statement}
+use Rattle.leaf_values.proofs.test_payloads.payloads.Tie as tie
 
 abbrev Inv-loop : tie.InvT-loop
-Inv-loop p₀ i₀ p i = i ≤ 300
+Inv-loop p₀ i₀ p i = (i ≤ 300) × (length p ≡ 405)
 
 abbrev μ-loop : tie.MeasureT-loop
 μ-loop p₀ i₀ p i = 300 - i
@@ -31,11 +33,20 @@ loop-less c = search needs
 loop-again : tie.Need-loop-again Inv-loop μ-loop
 loop-again c = search needs
 
+slice-aggregate-write : tie.Need-slice-aggregate-write Inv-loop μ-loop
+slice-aggregate-write c = search needs
+
+slice-aggregate-write-2 : tie.Need-slice-aggregate-write-2 Inv-loop μ-loop
+slice-aggregate-write-2 c = search needs
+
+write-requires : tie.Need-write-requires Inv-loop μ-loop
+write-requires c κs = search needs
+
 returns : tie.Need-returns Inv-loop μ-loop
 returns c = search needs
 
-pub counted-spec : {M : Type 1} → statement M
-counted-spec =
+pub payloads-spec : {M : Type 1} → statement M
+payloads-spec =
     tie.close
     (tie.spec
     Inv-loop
@@ -47,4 +58,7 @@ counted-spec =
     add-i
     loop-less
     loop-again
+    slice-aggregate-write
+    slice-aggregate-write-2
+    write-requires
     returns)
