@@ -1,5 +1,6 @@
 -- `dump::plans::put_upload` meets its contract, with and without an upload.
 use mathlib.Core.Path.{refl}
+use mir.Facts.{fits-8-64, fits-16-64, fits-32-64}
 use Rattle.adding.specs.Laws.{adds-both, adds-as}
 use Rattle.dump.specs.Plans.{uploadLine}
 use borrow.Author.Needs.{needs}
@@ -25,22 +26,22 @@ enum-known-upload : tie.Need-enum-known-upload
 enum-known-upload c = search needs
 
 cast-t21 : tie.Need-cast-t21
-cast-t21 c = search needs
+cast-t21 c = fits-8-64 (c .struct-known .given .0)
 
 cast-t22 : tie.Need-cast-t22
-cast-t22 c = search needs
+cast-t22 c = fits-8-64 (c .struct-known2 .given .1 .0)
 
 cast-t23 : tie.Need-cast-t23
-cast-t23 c = search needs
+cast-t23 c = fits-16-64 (c .struct-known3 .given .1 .1 .0)
 
 cast-t24 : tie.Need-cast-t24
-cast-t24 c = search needs
+cast-t24 c = fits-16-64 (c .struct-known4 .given .1 .1 .1 .0)
 
 cast-t25 : tie.Need-cast-t25
-cast-t25 c = search needs
+cast-t25 c = fits-32-64 (c .struct-known5 .given .1 .1 .1 .1 .0)
 
 cast-t26 : tie.Need-cast-t26
-cast-t26 c = search needs
+cast-t26 c = fits-8-64 (c .struct-known6 .given .1 .1 .1 .1 .1 .0)
 
 slice-aggregate-put-row : tie.Need-slice-aggregate-put-row
 slice-aggregate-put-row c = refl
