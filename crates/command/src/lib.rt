@@ -1,5 +1,4 @@
-// What "command done" answers.
-// The answer, with the item's number: its seconds, metres, degrees or speed, or a servo's channel and pulse.
+// What "command done" answers, with the item's number: its seconds, metres, degrees or speed, or a servo's channel and pulse.
 pub enum Command {
     Fly(u16),
     Wait(u16, f32),

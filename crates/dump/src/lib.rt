@@ -6,12 +6,10 @@ ghost use Rattle.dump.specs.Dumps.{currentLine, stateText, dumpText};
 use limits::FENCE;
 use limits::FLIGHT;
 use limits::JUMP_COUNTS;
+use limits::OUT_OF_RANGE;
 use limits::RALLY;
 use plan::State;
 use plans::put_kind;
-
-// The outcome of a call whose state has a number out of its range.
-const OUT_OF_RANGE: u64 = 15;
 
 // The current item, whether it is begun, and the jump counts.
 fn put_current(
@@ -45,7 +43,7 @@ pub fn put_dump(out: &mut [u8], at: usize, state: State, store: &[u8]) -> usize
     ensures { λ r. ⌜ Adds (dumpText state (now (store .entry))) (now (out .entry)) at (now (out .exit)) r ⌝ }
 {
     let ranged = ranges::ranged(state);
-    let end = rows::put_row(out, at, b'D', &[OUT_OF_RANGE * (!ranged) as u64]);
+    let end = rows::put_row(out, at, b'D', &[OUT_OF_RANGE as u64 * (!ranged) as u64]);
     if !ranged {
         return end;
     }

@@ -37,6 +37,9 @@ pub const DENIED: u8 = 14;
 
 pub const CANCELLED: u8 = 15;
 
+// The outcome of a call whose state has a number out of its range.
+pub const OUT_OF_RANGE: u8 = 15;
+
 // The flight commands that other rules name.
 pub const DELAY: u16 = 112;
 

@@ -4,6 +4,7 @@ ghost use Prim.Native.Nat.{ℕ};
 ghost use Rattle.rules.specs.Messages.{Station, station};
 ghost use Rattle.rules.specs.Calls.{message, timer, done, heard, oursOrAll};
 ghost use Rattle.refusal.specs.Refusals.{refusalOf, roomRefusal};
+use limits::OUT_OF_RANGE;
 use limits::RALLY;
 use limits::REPLY_BYTES;
 use limits::STORE_BYTES;
@@ -17,8 +18,6 @@ const NOT_READ: u8 = 12;
 const NOT_FOR_US: u8 = 13;
 
 const SHORT_STORE: u8 = 14;
-
-const OUT_OF_RANGE: u8 = 15;
 
 // A target number that is ours, or 0 for all.
 fn ours_or_all(own: u8, target: u8) -> bool

@@ -10,11 +10,14 @@ use Rattle.dump.proofs.put_dump.Tie as tie
 ranged-requires : tie.Need-ranged-requires
 ranged-requires c κs = search needs
 
-cast-t11 : tie.Need-cast-t11
-cast-t11 c = tt
+cast-t10 : tie.Need-cast-t10
+cast-t10 c = search needs
 
-mul-t12 : tie.Need-mul-t12
-mul-t12 c = outcome-fits (not (c .before .ranged .result))
+cast-t12 : tie.Need-cast-t12
+cast-t12 c = tt
+
+mul-t13 : tie.Need-mul-t13
+mul-t13 c = outcome-fits (not (c .before .ranged .result))
 
 slice-aggregate-put-row : tie.Need-slice-aggregate-put-row
 slice-aggregate-put-row c = search needs
@@ -52,8 +55,9 @@ put-dump-spec =
     tie.close
     (tie.spec
     ranged-requires
-    cast-t11
-    mul-t12
+    cast-t10
+    cast-t12
+    mul-t13
     slice-aggregate-put-row
     put-row-requires
     same-length
