@@ -21,9 +21,10 @@ fn statustext() -> wire::Statustext {
     }
 }
 
-// The numbers of a message: its id, how many bytes are written of it, and its fields as read, in wire order; params and z as bit patterns.
+// The most numbers of a message: its id, how many bytes are written of it, and its fields as read, in wire order; params and z as bit patterns.
 pub const NUMBERS: usize = 17;
 
+// Those of a message with five fields or fewer.
 pub fn few(id: u32, n: u64, a: u64, b: u64, c: u64, d: u64, e: u64) -> [u64; NUMBERS] {
     [id as u64, n, a, b, c, d, e, 0, 0, 0, 0, 0, 0, 0, 0, 0, 0]
 }

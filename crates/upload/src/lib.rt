@@ -1,6 +1,7 @@
 // The steps of one kind's upload, and what is said back. Everything here speaks of one plan at a time; its kind does not matter.
 use plan::Plan;
 
+mod counters;
 pub mod turns;
 pub mod updates;
 pub mod uploads;

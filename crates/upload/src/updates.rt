@@ -3,7 +3,7 @@ ghost use mathlib.Core.Path.{_≡_};
 ghost use Rattle.upload.specs.Turns.{withUpload, ended, emptied, replaced, keeps, renews};
 use super::Say;
 use super::Turned;
-use counters::next_number;
+use super::counters::next_number;
 use plan::Plan;
 use plan::Upload;
 

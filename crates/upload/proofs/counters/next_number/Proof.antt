@@ -8,8 +8,8 @@ use borrow.Author.Tests.{eq-eqb, ne-eqb}
 use Rattle.rules.specs.Limits.{clockValues, lastNumber}
 use Rattle.rules.specs.Model.{nextNumber}
 use borrow.Author.Needs.{needs}
-use Rattle.counters.proofs.next_number.Statement.{statement}
-use Rattle.counters.proofs.next_number.Tie as tie
+use Rattle.upload.proofs.counters.next_number.Statement.{statement}
+use Rattle.upload.proofs.counters.next_number.Tie as tie
 
 module _ (n next : ℕ) (small : n < clockValues) (is : next ≡ (n + 1) % clockValues) where
   skips : next ≡ 0 → 1 ≡ nextNumber n

@@ -7,8 +7,8 @@ use borrow.Author.Tests.{lt-ltb, le-ltb}
 use Rattle.rules.specs.Limits.{clockValues, halfClock}
 use Rattle.rules.specs.Model.{elapsed}
 use borrow.Author.Needs.{needs}
-use Rattle.counters.proofs.elapsed.Statement.{statement}
-use Rattle.counters.proofs.elapsed.Tie as tie
+use Rattle.upload.proofs.counters.elapsed.Statement.{statement}
+use Rattle.upload.proofs.counters.elapsed.Tie as tie
 
 undone : {m x b : ℕ} → x < m → b ≤ m → ((x + b) % m + (m - b)) % m ≡ x
 undone {m} {x} {b} below within =
