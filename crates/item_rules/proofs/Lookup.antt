@@ -7,7 +7,7 @@ use lib.Dec.{eqb}
 use Rattle.rules.specs.Limits.{unsupported}
 use Rattle.rules.specs.Messages.{Item}
 use Rattle.rules.specs.Items.{Row, commands, faultIn, faultAmong, fault}
-use Rattle.command_table.specs.Table.{Found, row, noRow, lookup}
+use Rattle.item_rules.specs.Table.{Found, row, noRow, lookup}
 
 module _ (kind count own jumps : ℕ) (i : Item) where
   -- by a row: its kind, then its rules

@@ -1,6 +1,6 @@
 // The rules' tests of an item, one by one, and an item's first fault by a row of the command table.
-use command_table::ParamRule;
-use command_table::Row;
+use super::table::ParamRule;
+use super::table::Row;
 use item::Item;
 use limits::ACCEPTED;
 use limits::INVALID_PARAM1;
@@ -19,7 +19,7 @@ ghost use mathlib.Core.Path.{_≡_};
 ghost use Rattle.rules.specs.Items.{frameOk, paramOk, targetIn, placeFault, roomFault, faultIn};
 ghost use Rattle.rules.specs.Values.{wholeOf, wholeFrom};
 ghost use Rattle.item.specs.Patterns.{itemFor, patterns};
-ghost use Rattle.command_table.specs.Table.{ruleOf, rowOf};
+ghost use Rattle.item_rules.specs.Table.{ruleOf, rowOf};
 
 fn frame_ok(positional: bool, frame: u8) -> bool
     ensures { λ r. ⌜ r ≡ frameOk positional frame ⌝ }

@@ -1,9 +1,10 @@
-// The verdict on an item by document 01's rules. The rules' tests one by one are in checks.
+// The verdict on an item by document 01's rules. The command table is in table, the rules' tests one by one are in checks.
 mod checks;
+mod table;
 
-use command_table::Listing;
 use item::Item;
 use limits::UNSUPPORTED;
+use table::Listing;
 ghost use mathlib.Core.Path.{_≡_};
 ghost use Rattle.rules.specs.Items.{fault};
 ghost use Rattle.item.specs.Patterns.{itemFor, patterns};
@@ -13,7 +14,7 @@ pub fn verdict(item: Item, kind: u8, count: u16, own: u16, jumps: u16) -> u8
     requires { ⌜ item ≡ itemFor (patterns item) ⌝ }
     ensures { λ r. ⌜ r ≡ fault kind count own jumps (patterns item) ⌝ }
 {
-    let listing = command_table::row_of(item.command);
+    let listing = table::row_of(item.command);
     match listing {
         Listing::Listed(row) => {
             if row.kind == kind {

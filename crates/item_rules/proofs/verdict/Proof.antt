@@ -7,10 +7,10 @@ use borrow.Author.Tests.{eq-eqb, ne-eqb}
 use Rattle.rules.specs.Limits.{unsupported}
 use Rattle.rules.specs.Messages as rules
 use Rattle.rules.specs.Items.{commands, faultIn, fault}
-use Rattle.command_table.specs.declared.Row.{Row}
-use Rattle.command_table.specs.declared.Listing.{Listing}
-use Rattle.command_table.specs.declared.Listing.the-variants.{Listed, NotListed}
-use Rattle.command_table.specs.Table.{rowOf, lookup, lookedUp}
+use Rattle.item_rules.specs.declared.table.Row.{Row}
+use Rattle.item_rules.specs.declared.table.Listing.{Listing}
+use Rattle.item_rules.specs.declared.table.Listing.the-variants.{Listed, NotListed}
+use Rattle.item_rules.specs.Table.{rowOf, lookup, lookedUp}
 use Rattle.item_rules.proofs.Lookup.{byFound, by-lookup}
 use Rattle.item_rules.proofs.verdict.Statement.{statement}
 use Rattle.item_rules.proofs.verdict.Tie as tie

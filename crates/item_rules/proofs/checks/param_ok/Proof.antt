@@ -8,8 +8,8 @@ use mir.Val.{SFits}
 use Rattle.rules.specs.Values.{Whole, wholeOf, wholeFrom}
 use Rattle.values.specs.Integers.{back, back-is}
 use Rattle.rules.specs.Items.{paramOk}
-use Rattle.command_table.specs.Table.{ruleOf}
-use Rattle.command_table.specs.declared.ParamRule.{ParamRule}
+use Rattle.item_rules.specs.Table.{ruleOf}
+use Rattle.item_rules.specs.declared.table.ParamRule.{ParamRule}
 use borrow.Author.Needs.{needs}
 use Rattle.item_rules.proofs.checks.param_ok.Statement.{statement}
 use Rattle.item_rules.proofs.checks.param_ok.Tie as tie

@@ -6,9 +6,9 @@ use Rattle.rules.specs.Limits.{unsupportedFrame, invalidParam1, invalidParam2}
 use Rattle.rules.specs.Values.{float}
 use Rattle.rules.specs.Items.{frameOk, paramOk, placeFault, roomFault, faultIn}
 use Rattle.item.specs.declared.Item.{Item}
-use Rattle.command_table.specs.declared.Row.{Row}
+use Rattle.item_rules.specs.declared.table.Row.{Row}
 use Rattle.item.specs.Patterns.{patterns, itemFor}
-use Rattle.command_table.specs.Table.{ruleOf, rowOf}
+use Rattle.item_rules.specs.Table.{ruleOf, rowOf}
 use borrow.Author.Needs.{needs}
 use Rattle.item_rules.proofs.checks.row_fault.Statement.{statement}
 use Rattle.item_rules.proofs.checks.row_fault.Tie as tie

@@ -4,11 +4,11 @@ use mathlib.Core.List.{List, [], _∷_}
 use mathlib.Core.Bool.{cond}
 use lib.Dec.{eqb}
 use Rattle.rules.specs.Items as rules
-use Rattle.command_table.specs.declared.ParamRule.{ParamRule}
-use Rattle.command_table.specs.declared.ParamRule.the-variants.{Anything, Finite, AtLeastZero, AboveZero, UpTo, Whole, Target}
-use Rattle.command_table.specs.declared.Row.{Row}
-use Rattle.command_table.specs.declared.Listing.{Listing}
-use Rattle.command_table.specs.declared.Listing.the-variants.{Listed, NotListed}
+use Rattle.item_rules.specs.declared.table.ParamRule.{ParamRule}
+use Rattle.item_rules.specs.declared.table.ParamRule.the-variants.{Anything, Finite, AtLeastZero, AboveZero, UpTo, Whole, Target}
+use Rattle.item_rules.specs.declared.table.Row.{Row}
+use Rattle.item_rules.specs.declared.table.Listing.{Listing}
+use Rattle.item_rules.specs.declared.table.Listing.the-variants.{Listed, NotListed}
 
 -- what each case of the code's ParamRule asks
 abbrev pub ruleOf : ParamRule → rules.ParamRule

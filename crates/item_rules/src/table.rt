@@ -1,7 +1,7 @@
 // The command table: for each command the kind it belongs to, whether it is positional, and what is asked of params 1 and 2.
 ghost use mathlib.Core.Path.{_≡_};
 ghost use Rattle.rules.specs.Items.{commands};
-ghost use Rattle.command_table.specs.Table.{lookedUp, lookup};
+ghost use Rattle.item_rules.specs.Table.{lookedUp, lookup};
 use limits::CHANGE_SPEED;
 use limits::DELAY;
 use limits::DISTANCE;

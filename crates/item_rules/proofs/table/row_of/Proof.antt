@@ -12,10 +12,10 @@ use lib.Ieee.Fits.{and-l, and-r}
 use borrow.Author.Needs.{needs}
 use borrow.Author.Tests.{ne-eqb, ltb-true, leb-true, eqb-true}
 use Rattle.rules.specs.Items.{Row, commands, among as anyOf}
-use Rattle.command_table.specs.Table.{lookup, lookedUp, noRow}
-use Rattle.command_table.specs.declared.Listing.{Listing}
-use Rattle.command_table.proofs.row_of.Statement.{statement}
-use Rattle.command_table.proofs.row_of.Tie as tie
+use Rattle.item_rules.specs.Table.{lookup, lookedUp, noRow}
+use Rattle.item_rules.specs.declared.table.Listing.{Listing}
+use Rattle.item_rules.proofs.table.row_of.Statement.{statement}
+use Rattle.item_rules.proofs.table.row_of.Tie as tie
 
 -- looking the command n up finds what l says
 abbrev Agrees : Listing → ℕ → Type 0
