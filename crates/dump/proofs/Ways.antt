@@ -3,10 +3,8 @@ use Prim.Native.Nat.{ℕ, _*_}
 use mathlib.Core.Path.{_≡_, subst}
 use mathlib.Core.Bool.{Bool, true, false, not}
 use mathlib.Core.List.{List, [], _∷_}
-use mir.Syntax.{w64}
-use mir.Val.{Fits, boolByte}
-use borrow.Author.Needs.{needs}
-use Rattle.rules.specs.Limits.{flight, fence, rally}
+use mir.Val.{boolByte}
+use Rattle.rules.specs.Limits.{flight, fence, rally, outOfRange}
 use Rattle.rules.specs.Payload.{Bytes}
 use Rattle.rules.specs.Model.{inRange}
 use Rattle.plan.specs.declared.State.{State}
@@ -19,27 +17,23 @@ use Rattle.dump.specs.Plans.{kindText}
 use Rattle.dump.proofs.PlanWays.{flag-byte}
 use Rattle.dump.specs.Dumps.{currentLine, stateText, dumpText}
 
-pub outcome-fits : (b : Bool) → Fits w64 (15 * boolByte b)
-outcome-fits true = search needs
-outcome-fits false = search needs
-
 module _ (st : State) (store : Bytes) (ranged : Bool) (is : ranged ≡ inRange (view st store)) where
   pub out-of-range
-      : (before after : List ℕ) (at r : ℕ) → ranged ≡ false → Adds (row 68 (15 * boolByte (not ranged) ∷ [])) before at after r → Adds (dumpText st store) before at after r
+      : (before after : List ℕ) (at r : ℕ) → ranged ≡ false → Adds (row 68 (outOfRange * boolByte (not ranged) ∷ [])) before at after r → Adds (dumpText st store) before at after r
   unfolding dumpText each decimalIn digit
   out-of-range before after at r e adds =
-      let fifteen : Adds (row 68 (15 ∷ [])) before at after r = subst (λ (b : Bool). Adds (row 68 (15 * boolByte (not b) ∷ [])) before at after r) e adds in
+      let fifteen : Adds (row 68 (15 ∷ [])) before at after r = subst (λ (b : Bool). Adds (row 68 (outOfRange * boolByte (not b) ∷ [])) before at after r) e adds in
       rw (← is, e) fifteen
 
   pub in-range
       : (before between after : List ℕ) (at i r : ℕ)
       → ranged ≡ true
-      → Adds (row 68 (15 * boolByte (not ranged) ∷ [])) before at between i
+      → Adds (row 68 (outOfRange * boolByte (not ranged) ∷ [])) before at between i
       → Adds (stateText st store) between i after r
       → Adds (dumpText st store) before at after r
   unfolding dumpText each decimalIn digit
   in-range before between after at i r e a b =
-      let none : Adds (row 68 (0 ∷ [])) before at between i = subst (λ (b : Bool). Adds (row 68 (15 * boolByte (not b) ∷ [])) before at between i) e a in
+      let none : Adds (row 68 (0 ∷ [])) before at between i = subst (λ (b : Bool). Adds (row 68 (outOfRange * boolByte (not b) ∷ [])) before at between i) e a in
       rw (← is, e) (adds-both none b)
 
 module _ (before second third after : List ℕ) (at i j r : ℕ) where

@@ -9,12 +9,11 @@ use Rattle.plan.specs.declared.Upload.{Upload}
 use Rattle.plan.specs.declared.Upload.the-variants.{Idle, Running}
 use Rattle.places.specs.Places.{itemAt}
 use Rattle.text.specs.Words.{ascii}
-use Rattle.text.specs.Digits.{hex}
-use Rattle.rows.specs.Rows.{begun, row}
+use Rattle.rows.specs.Rows.{begun, row, line}
 
 -- "`i K I BYTES` ..: the 38 bytes at the plan's place I", "`w K I BYTES` ..: the 38 bytes in the other half"
 abbrev pub itemLine : (letter kind n : ℕ) → Bytes → Bytes
-itemLine letter kind n bytes = begun letter (kind ∷ n ∷ []) ++ (32 ∷ (hex bytes ++ ascii "\n"))
+itemLine letter kind n bytes = line (letter ∷ []) (kind ∷ n ∷ []) (ascii " ") bytes (ascii "\n")
 
 -- the lines of the first n items of a kind in a half
 unfoldable pub itemLines : (letter kind : ℕ) (half : Bool) → Bytes → (n : ℕ) → Bytes

@@ -42,10 +42,6 @@ pub one-more : (b : Bool) → Fits w64 (1 + boolByte b)
 one-more true = search needs
 one-more false = search needs
 
-pub doubled : (b : Bool) → Fits w64 (2 * boolByte b)
-doubled true = search needs
-doubled false = search needs
-
 module _ (len : ℕ) (reply : List ℕ) where
   reply-text : (none : Bool) → none ≡ eqb len 0 → take (1 + boolByte none) (ascii " -") ++ hex (take len reply) ≡ 32 ∷ replyText len reply
   unfolding replyText each

@@ -1,2 +1,3 @@
 -- Rows of numbers.
 pub mod Rows
+pub mod Flags

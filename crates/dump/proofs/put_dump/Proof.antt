@@ -1,5 +1,7 @@
 -- `dump::put_dump` meets its contract, in range and out of it.
-use Rattle.dump.proofs.Ways.{outcome-fits, out-of-range, in-range}
+use Rattle.rules.specs.Limits.{outOfRange}
+use Rattle.rows.specs.Flags.{flag-times}
+use Rattle.dump.proofs.Ways.{out-of-range, in-range}
 use mathlib.Core.Bool.{not}
 use denote.Ref.{now}
 use borrow.Author.Needs.{needs}
@@ -17,7 +19,7 @@ cast-t12 : tie.Need-cast-t12
 cast-t12 c = tt
 
 mul-t13 : tie.Need-mul-t13
-mul-t13 c = outcome-fits (not (c .before .ranged .result))
+mul-t13 c = flag-times outOfRange (search needs) (not (c .before .ranged .result))
 
 slice-aggregate-put-row : tie.Need-slice-aggregate-put-row
 slice-aggregate-put-row c = search needs

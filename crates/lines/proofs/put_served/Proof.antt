@@ -1,7 +1,8 @@
 -- `lines::put_served` meets its contract: the parts of the line in their order.
 use mathlib.Core.Path.{refl}
 use lib.Dec.{eqb}
-use Rattle.lines.proofs.Ways.{one-more, doubled, served-line}
+use Rattle.rows.specs.Flags.{flag-times}
+use Rattle.lines.proofs.Ways.{one-more, served-line}
 use borrow.Author.Needs.{needs}
 use Rattle.lines.proofs.put_served.Statement.{statement}
 use Rattle.lines.proofs.put_served.Tie as tie
@@ -28,7 +29,7 @@ cast-part-2 : tie.Need-cast-part-2
 cast-part-2 c = tt
 
 mul-part : tie.Need-mul-part
-mul-part c = doubled (c .untouched .result)
+mul-part c = flag-times 2 (search needs) (c .untouched .result)
 
 part-requires-2 : tie.Need-part-requires-2
 part-requires-2 c κs = tt

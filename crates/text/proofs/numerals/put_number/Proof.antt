@@ -1,5 +1,5 @@
 -- `text::numerals::put_number` meets its contract. The loop's invariant: what is left stands before the digits that are made, and there is room for it.
-use Prim.Native.Nat.{_+_, _^_, _<_, _≤_}
+use Prim.Native.Nat.{ℕ, _+_, _^_, _<_, _≤_}
 use mathlib.Core.Path.{_≡_, sym}
 use mathlib.Core.List.{_++_, append-nil}
 use native.Mathlib.Omega.{arith}
@@ -10,8 +10,12 @@ use Rattle.text.specs.Numbers.{room-left, digit-made, digits-put}
 use Rattle.text.proofs.numerals.put_number.Statement.{statement}
 use Rattle.text.proofs.numerals.put_number.Tie as tie
 
+-- the size of the buffer of digits
+abbrev mostDigits : ℕ
+mostDigits = 20
+
 abbrev Inv-loop : tie.InvT-loop
-Inv-loop out at n digits₀ first₀ left₀ digits first left = (first < 20) × (length digits ≡ 20) × (left < 10 ^ (first + 1)) × (decimal n ≡ decimal left ++ drop (first + 1) digits)
+Inv-loop out at n digits₀ first₀ left₀ digits first left = (first < mostDigits) × (length digits ≡ mostDigits) × (left < 10 ^ (first + 1)) × (decimal n ≡ decimal left ++ drop (first + 1) digits)
 
 abbrev μ-loop : tie.MeasureT-loop
 μ-loop out at n digits₀ first₀ left₀ digits first left = first
@@ -66,7 +70,7 @@ part-put-start c = search needs
 part-put-end : tie.Need-part-put-end Inv-loop μ-loop
 part-put-end c =
     let l = c .before .before .before .before in
-    let h : 20 ≤ length (set (l .loop .digits) (l .loop .first) (c .before .before .digit2 .result)) = omega (arith, l .loop .inv .1, length-set (l .loop .digits) (l .loop .first) (c .before .before .digit2 .result)) in
+    let h : mostDigits ≤ length (set (l .loop .digits) (l .loop .first) (c .before .before .digit2 .result)) = omega (arith, l .loop .inv .1, length-set (l .loop .digits) (l .loop .first) (c .before .before .digit2 .result)) in
     h
 
 put-requires : tie.Need-put-requires Inv-loop μ-loop
