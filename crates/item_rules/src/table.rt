@@ -9,6 +9,7 @@ use limits::FENCE;
 use limits::FLIGHT;
 use limits::JUMP;
 use limits::RALLY;
+use limits::RETURN_HOME;
 use limits::SET_SERVO;
 use limits::YAW;
 
@@ -56,7 +57,8 @@ pub fn row_of(command: u16) -> Listing
 {
     match command {
         16 | 18..=19 => listed_as(FLIGHT, true, ParamRule::AtLeastZero, ParamRule::Anything),
-        17 | 20..=22 | 31 => listed_as(FLIGHT, true, ParamRule::Anything, ParamRule::Anything),
+        17 | 21..=22 | 31 => listed_as(FLIGHT, true, ParamRule::Anything, ParamRule::Anything),
+        RETURN_HOME => listed_as(FLIGHT, false, ParamRule::Anything, ParamRule::Anything),
         DELAY | DISTANCE => listed_as(FLIGHT, false, ParamRule::AtLeastZero, ParamRule::Anything),
         YAW => listed_as(FLIGHT, false, ParamRule::UpTo(360), ParamRule::Anything),
         JUMP => listed_as(

@@ -41,6 +41,8 @@ pub const CANCELLED: u8 = 15;
 pub const OUT_OF_RANGE: u8 = 15;
 
 // The flight commands that other rules name.
+pub const RETURN_HOME: u16 = 20;
+
 pub const DELAY: u16 = 112;
 
 pub const DISTANCE: u16 = 114;

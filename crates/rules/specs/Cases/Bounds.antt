@@ -1,15 +1,16 @@
--- Cases on both sides of each bound: the items' frames, params and coordinates, and the numbers of the state. One table, and one
--- statement: every case holds.
+-- Cases on both sides of each bound: the items' frames, params and coordinates, those of return home (M-101), and the numbers of the state. One table,
+-- and one statement: every case holds.
 use Prim.Native.Nat.{ℕ}
 use mathlib.Core.Path.{refl}
 use mathlib.Core.List.{List, [], _∷_, _++_, map}
 use mathlib.Core.Bool.{false}
 use lib.ListN.{getD, set, replicate}
 use Rattle.rules.specs.Limits.{flight, fence, rally}
-use Rattle.rules.specs.Messages.{Item, count, ack, requestInt}
+use Rattle.rules.specs.Messages.{Item, count, ack, requestInt, itemInt}
 use Rattle.rules.specs.Model.{Model, Plan, idle, running, fresh}
+use Rattle.rules.specs.NextCommand.{fly, finished, stuck}
 use Rattle.rules.specs.Step.{Answer, refused, says, replyBytes}
-use Rattle.rules.specs.Cases.{computing, Case, numbers, answer, _is_, Hold, tablet, sendsItem, asksForList, ticks, after, f1, f2, f3, fNaN, fMinusOne, itemWith, itemAs, waypoint, jumpTo, vertex, plansOf, resting, uploads, judges}
+use Rattle.rules.specs.Cases.{computing, Case, numbers, answer, commands, _is_, Hold, tablet, sendsItem, asksForList, asksForItem, ticks, finishes, after, ordered, withFlight, f1, f2, f3, fNaN, fMinusOne, itemWith, itemAs, waypoint, jumpTo, vertex, plansOf, resting, uploads, judges}
 use Rattle.rules.specs.Cases.Readings.{readings-hold}
 
 -- ---- the result for an item
@@ -37,6 +38,10 @@ byParam1 kind command param1 = itemAs kind command 0 param1 0 0
 
 abbrev byCommand : (kind param1 command : ℕ) → Item
 byCommand kind param1 command = byParam1 kind command param1
+
+-- return home in a frame, at a place
+abbrev home : (frame x y z : ℕ) → Item
+home frame x y z = itemWith flight 20 0 frame 0 0 x y z
 
 abbrev servo : (channel pulse : ℕ) → Item
 servo channel pulse = itemAs flight 183 0 channel pulse 0
@@ -113,6 +118,21 @@ bounds =
     -- fence and rally items are positional
     ∷ (numbers (results fence (λ (v : ℕ). itemWith fence 5000 0 v 0 0 0 0 0) (2 ∷ 3 ∷ [])) is numbers (2 ∷ 0 ∷ []))
     ∷ (numbers (results rally (λ (v : ℕ). itemWith rally 5100 0 v 0 0 0 0 fNaN) (2 ∷ 3 ∷ [])) is numbers (2 ∷ 12 ∷ []))
+    -- M-101: of the commands about 20 it alone takes frame 2; it takes the frames of 178, and no other
+    ∷ (numbers (results flight (λ (c : ℕ). framed c 2) (16 ∷ 17 ∷ 18 ∷ 19 ∷ 20 ∷ 21 ∷ 22 ∷ 31 ∷ [])) is numbers (2 ∷ 2 ∷ 2 ∷ 2 ∷ 0 ∷ 2 ∷ 2 ∷ 2 ∷ []))
+    ∷ (numbers (results flight (framed 20) (0 ∷ 1 ∷ 2 ∷ 3 ∷ 4 ∷ 5 ∷ 6 ∷ 7 ∷ 9 ∷ 10 ∷ 11 ∷ 12 ∷ [])) is numbers (0 ∷ 2 ∷ 0 ∷ 0 ∷ 2 ∷ 0 ∷ 0 ∷ 2 ∷ 2 ∷ 0 ∷ 0 ∷ 2 ∷ []))
+    -- its x, y and z are not judged, each by itself and all together, whatever its frame; those of 21 are
+    ∷ (numbers (results flight (λ (x : ℕ). home 2 x 0 0) (900000000 ∷ 900000001 ∷ 3394967295 ∷ 0x80000000 ∷ [])) is numbers (0 ∷ 0 ∷ 0 ∷ 0 ∷ []))
+    ∷ (numbers (results flight (λ (y : ℕ). home 2 0 y 0) (1800000000 ∷ 1800000001 ∷ 2494967295 ∷ 0x80000000 ∷ [])) is numbers (0 ∷ 0 ∷ 0 ∷ 0 ∷ []))
+    ∷ (numbers (results flight (λ (z : ℕ). home 2 0 0 z) (0x7f7fffff ∷ 0x7f800000 ∷ 0xff800000 ∷ fNaN ∷ [])) is numbers (0 ∷ 0 ∷ 0 ∷ 0 ∷ []))
+    ∷ (numbers (results flight (λ (frame : ℕ). home frame 900000001 1800000001 fNaN) (0 ∷ 2 ∷ 3 ∷ 1 ∷ [])) is numbers (0 ∷ 0 ∷ 0 ∷ 2 ∷ []))
+    ∷ (answer (judges flight (itemWith flight 21 0 3 0 0 900000001 1800000001 fNaN)) is answer (says (ack tablet 10 0 0)))
+    -- the upload completes, and the item comes back as it was sent
+    ∷ (answer (judges flight (home 2 900000001 1800000001 fNaN)) is answer (says (ack tablet 0 0 1)))
+    ∷ (answer (after fresh (uploads flight 1 (home 2 900000001 1800000001 fNaN ∷ [])) (asksForItem tablet flight 0)) is answer (says (itemInt tablet 1 (home 2 900000001 1800000001 fNaN))))
+    -- its answer stays Fly; land in frame 2, which a host wrote, is Stuck
+    ∷ (commands (ordered (withFlight (home 2 900000001 1800000001 fNaN ∷ []) 1) (finishes ∷ finishes ∷ [])) is commands (fly 0 ∷ finished ∷ []))
+    ∷ (commands (ordered (withFlight (framed 21 2 ∷ []) 1) (finishes ∷ [])) is commands (stuck ∷ []))
     -- outcome 15: a plan's length
     ∷ (answer (listed (lengths 256 64 32)) is answer (says (count tablet 256 0 1)))
     ∷ (answer (listed (lengths 257 0 0)) is answer (refused 15))

@@ -1,4 +1,4 @@
--- At each command that the table names, the row is the one that looking it up finds, by computation. A range of two or three commands is taken
+-- At each command that the table names, the row is the one that looking it up finds, by computation. A range of two commands is taken
 -- apart into them. Any other command is none of the rows' commands.
 use Prim.Native.Nat.{ℕ, zero, suc, _+_, _≤_, _<_}
 use mathlib.Core.Path.{_≡_, refl, sym, _∙_, subst}
@@ -109,13 +109,16 @@ listed-as-requires-10 c κs = search needs
 listed-as-requires-11 : tie.Need-listed-as-requires-11
 listed-as-requires-11 c κs = search needs
 
+listed-as-requires-12 : tie.Need-listed-as-requires-12
+listed-as-requires-12 c κs = search needs
+
 returns : tie.Need-returns
 unfolding lookup
-returns c = ⊎-elim (λ h. at (c .listed-as .ensures) h refl) (λ h. at (c .listed-as .ensures) h refl) (c .before .match .keys3)
+returns c = at (c .listed-as .ensures) (c .before .match .keys3) refl
 
 returns-2 : tie.Need-returns-2
 unfolding lookup
-returns-2 c = at (c .listed-as2 .ensures) (c .before .match .keys4) refl
+returns-2 c = ⊎-elim (λ h. at (c .listed-as2 .ensures) h refl) (λ h. at (c .listed-as2 .ensures) h refl) (c .before .match .keys4)
 
 returns-3 : tie.Need-returns-3
 unfolding lookup
@@ -139,47 +142,51 @@ returns-7 c = at (c .listed-as7 .ensures) (c .before .match .keys9) refl
 
 returns-8 : tie.Need-returns-8
 unfolding lookup
-returns-8 c = within 5001 2 (c .listed-as8 .ensures) (past (c .before .before .if4 .left) (c .before .before .before .before .before .before .match .rest .0 .1)) (c .before .if5 .taken) (refl, (refl, tt))
+returns-8 c = at (c .listed-as8 .ensures) (c .before .match .keys10) refl
 
 returns-9 : tie.Need-returns-9
 unfolding lookup
-returns-9 c = within 5003 2 (c .listed-as9 .ensures) (c .before .before .if5 .left) (c .before .if6 .taken) (refl, (refl, tt))
+returns-9 c = within 5001 2 (c .listed-as9 .ensures) (past (c .before .before .if4 .left) (c .before .before .before .before .before .before .match .rest .0 .1)) (c .before .if5 .taken) (refl, (refl, tt))
 
 returns-10 : tie.Need-returns-10
 unfolding lookup
-returns-10 c = unlisted (c .before .before .args .command) 0 16 [] (omega arith) (c .if1 .taken) tt commands tt
+returns-10 c = within 5003 2 (c .listed-as10 .ensures) (c .before .before .if5 .left) (c .before .if6 .taken) (refl, (refl, tt))
 
 returns-11 : tie.Need-returns-11
 unfolding lookup
-returns-11 c =
+returns-11 c = unlisted (c .before .before .args .command) 0 16 [] (omega arith) (c .if1 .taken) tt commands tt
+
+returns-12 : tie.Need-returns-12
+unfolding lookup
+returns-12 c =
     let to183 = c .before .before .before .before .match .rest .0 .0 in
     let to177 = to183 .0 .0 in
     let to114 = to177 .0 .0 in
     unlisted (c .before .before .before .before .before .args .command) 23 5000 (31 ∷ 112 ∷ 114 ∷ 115 ∷ 177 ∷ 178 ∷ 183 ∷ [])
     (c .before .if3 .left)
     (c .if4 .taken)
-    ((λ e. to114 .0 .1 (inr e)), ((λ e. to114 .1 (inl e)), ((λ e. to114 .1 (inr e)), (to177 .0 .1, (to177 .1, (to183 .0 .1, (to183 .1, tt)))))))
+    ((λ e. to114 .0 .0 .1 (inr e)), ((λ e. to114 .1 (inl e)), ((λ e. to114 .1 (inr e)), (to177 .0 .1, (to177 .1, (to183 .0 .1, (to183 .1, tt)))))))
     commands
     tt
-
-returns-12 : tie.Need-returns-12
-unfolding lookup
-returns-12 c =
-    let rest = c .before .before .before .before .before .before .match .rest in
-    let start = c .before .before .before .before .before .before .before in
-    unlisted (start .args .command) 5005 65536 (5100 ∷ []) (c .if6 .left) (omega arith) (rest .1, tt) commands tt
 
 returns-13 : tie.Need-returns-13
 unfolding lookup
 returns-13 c =
-    ⊎-elim (λ k. ⊎-elim (λ h. at (c .listed-as10 .ensures) h refl) (λ h. at (c .listed-as10 .ensures) h refl) (k .keys2))
-    (λ k. within 20 3 (c .listed-as10 .ensures) (k .2 .left) (k .3 .taken) (refl, (refl, (refl, tt)))) (c .before .match .came)
+    let rest = c .before .before .before .before .before .before .match .rest in
+    let start = c .before .before .before .before .before .before .before in
+    unlisted (start .args .command) 5005 65536 (5100 ∷ []) (c .if6 .left) (omega arith) (rest .1, tt) commands tt
 
 returns-14 : tie.Need-returns-14
 unfolding lookup
 returns-14 c =
-    ⊎-elim (λ k. at (c .listed-as11 .ensures) (k .keys1) refl)
-    (λ k. within 18 2 (c .listed-as11 .ensures) (past (past (k .1 .left) (k .0 .rest .0 .0 .0 .0 .0 .0 .0 .0 .1)) (λ e. k .0 .rest .0 .0 .0 .0 .0 .0 .0 .1 (inl e))) (k .2 .taken) (refl, (refl, tt))) (c .before .match .came)
+    ⊎-elim (λ k. ⊎-elim (λ h. at (c .listed-as11 .ensures) h refl) (λ h. at (c .listed-as11 .ensures) h refl) (k .keys2))
+    (λ k. within 21 2 (c .listed-as11 .ensures) (past (k .2 .left) (k .0 .rest .0 .0 .0 .0 .0 .0 .0 .1)) (k .3 .taken) (refl, (refl, tt))) (c .before .match .came)
+
+returns-15 : tie.Need-returns-15
+unfolding lookup
+returns-15 c =
+    ⊎-elim (λ k. at (c .listed-as12 .ensures) (k .keys1) refl)
+    (λ k. within 18 2 (c .listed-as12 .ensures) (past (past (k .1 .left) (k .0 .rest .0 .0 .0 .0 .0 .0 .0 .0 .0 .1)) (λ e. k .0 .rest .0 .0 .0 .0 .0 .0 .0 .0 .1 (inl e))) (k .2 .taken) (refl, (refl, tt))) (c .before .match .came)
 
 pub row-of-spec : {M : Type 1} → statement M
 row-of-spec =
@@ -196,6 +203,7 @@ row-of-spec =
     listed-as-requires-9
     listed-as-requires-10
     listed-as-requires-11
+    listed-as-requires-12
     returns
     returns-2
     returns-3
@@ -209,4 +217,5 @@ row-of-spec =
     returns-11
     returns-12
     returns-13
-    returns-14)
+    returns-14
+    returns-15)
