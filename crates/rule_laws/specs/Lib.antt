@@ -12,4 +12,5 @@ pub mod Fitting
 pub mod Fitted
 pub mod Replies
 pub mod Refused
+pub mod StayValid
 pub mod ReadBack
