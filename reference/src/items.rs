@@ -4,6 +4,8 @@ use crate::fault::Fault;
 use crate::layout::Item;
 use crate::limits::*;
 
+pub const RETURN_HOME: u16 = 20;
+pub const LAND: u16 = 21;
 pub const DO_JUMP: u16 = 177;
 pub const RETURN_POINT: u16 = 5000;
 pub const VERTEX_INCLUSION: u16 = 5001;
@@ -62,7 +64,9 @@ enum ParamRule {
 fn command_rule(command: u16) -> Option<(usize, bool, ParamRule)> {
     Some(match command {
         16 | 18 | 19 => (FLIGHT, true, ParamRule::Amount),
-        17 | 20 | 21 | 22 | 31 => (FLIGHT, true, ParamRule::Free),
+        17 | LAND | 22 | 31 => (FLIGHT, true, ParamRule::Free),
+        // Request M-101: frames as the commands below, x, y and z unchecked.
+        RETURN_HOME => (FLIGHT, false, ParamRule::Free),
         112 | 114 => (FLIGHT, false, ParamRule::Amount),
         115 => (FLIGHT, false, ParamRule::Heading),
         177 => (FLIGHT, false, ParamRule::Jump),
@@ -80,16 +84,28 @@ fn command_rule(command: u16) -> Option<(usize, bool, ParamRule)> {
 pub fn judge(item: &Item, standing: &Standing, fault: Fault) -> Result<(), u8> {
     let (kind, positional, rule) = command_rule(item.command).ok_or(result::UNSUPPORTED)?;
     require(kind == standing.kind, result::UNSUPPORTED)?;
+    let positional = positional_with(item.command, positional, fault);
+    let going_home = item.command == RETURN_HOME;
     let frame_fits = positional_frame(item.frame)
-        || (item.frame == 2 && (!positional || fault.is(Fault::FrameTwo)));
+        || (item.frame == 2 && (!positional || fault.is(Fault::FrameTwo)))
+        || (going_home && fault.is(Fault::HomeAnyFrame));
     require(frame_fits, result::UNSUPPORTED_FRAME)?;
     check_params(item, rule, standing, fault)?;
-    if positional {
+    if positional || (going_home && fault.is(Fault::HomePlaceJudged)) {
         check_position(item, fault)?;
     }
     let room = MAX_JUMPS + usize::from(fault.is(Fault::SixteenJumps));
     let fits = item.command != DO_JUMP || standing.jumps_before < room;
     require(fits, result::NO_SPACE)
+}
+
+/// Whether a command is positional, with a planted fault.
+fn positional_with(command: u16, positional: bool, fault: Fault) -> bool {
+    match (command, fault) {
+        (RETURN_HOME, Fault::HomePositional) => true,
+        (LAND, Fault::LandNotPositional) => false,
+        _ => positional,
+    }
 }
 
 fn require(holds: bool, otherwise: u8) -> Result<(), u8> {
@@ -245,8 +261,12 @@ mod tests {
             let expected = if positional { 0 } else { 2 };
             assert_eq!(verdict(&at(16), FLIGHT), expected);
             assert_eq!(verdict(&at(5100), RALLY), expected);
+            for command in [17, 18, 19, 21, 22, 31] {
+                assert_eq!(verdict(&at(command), FLIGHT), expected);
+            }
             let expected = if positional || frame == 2 { 0 } else { 2 };
             assert_eq!(verdict(&at(112), FLIGHT), expected);
+            assert_eq!(verdict(&at(20), FLIGHT), expected);
         }
     }
 
@@ -323,10 +343,15 @@ mod tests {
         let y = |y| verdict(&Item { y, ..item(5100) }, RALLY);
         assert_eq!((y(1_800_000_000), y(-1_800_000_000)), (0, 0));
         assert_eq!((y(1_800_000_001), y(-1_800_000_001), y(i32::MIN)), (11, 11, 11));
-        let z = |z: f32| verdict(&Item { z: z.to_bits(), ..item(20) }, FLIGHT);
+        let z = |z: f32| verdict(&Item { z: z.to_bits(), ..item(21) }, FLIGHT);
         assert_eq!((z(f32::MAX), z(f32::NAN), z(f32::INFINITY)), (0, 12, 12));
-        let unchecked = Item { x: i32::MAX, y: i32::MIN, z: u32::MAX, ..item(112) };
-        assert_eq!(verdict(&unchecked, FLIGHT), 0);
+        let anywhere = |command| Item { x: i32::MAX, y: i32::MIN, z: u32::MAX, ..item(command) };
+        for command in [20, 112] {
+            assert_eq!(verdict(&anywhere(command), FLIGHT), 0);
+        }
+        for command in [16, 17, 18, 19, 21, 22, 31] {
+            assert_eq!(verdict(&anywhere(command), FLIGHT), 10);
+        }
     }
 
     #[test]

@@ -35,7 +35,8 @@ pub fn next_command(state: &mut State, store: &[u8], fault: Fault) -> Command {
         let jumps_before = if is_jump { shelf.jumps_before(store, at) } else { 0 };
         let standing = Standing { kind: FLIGHT, number: at, count: length, jumps_before };
         let trusted = fault.is(Fault::SearchTrusts) && !is_jump;
-        if !trusted && judge(&item, &standing, fault).is_err() {
+        let judging = if fault.is(Fault::HomeStuck) { Fault::HomePositional } else { fault };
+        if !trusted && judge(&item, &standing, judging).is_err() {
             return Command::Stuck;
         }
         if !is_jump {

@@ -8,10 +8,17 @@ use reference::script::play;
 
 #[test]
 fn d_edges() {
-    let script: &[u8] = include_bytes!("samples/d_edges.bin");
-    let expected = include_str!("samples/d_edges.exp");
+    prints(include_bytes!("samples/d_edges.bin"), include_str!("samples/d_edges.exp"));
+}
+
+#[test]
+fn m101() {
+    prints(include_bytes!("samples/m101.bin"), include_str!("samples/m101.exp"));
+}
+
+fn prints(mut script: &[u8], expected: &str) {
     let mut lines = Vec::new();
-    play(&mut &script[..], &mut lines, Fault::None).unwrap();
+    play(&mut script, &mut lines, Fault::None).unwrap();
     let lines = String::from_utf8(lines).unwrap();
     for (number, (line, wanted)) in lines.lines().zip(expected.lines()).enumerate() {
         assert_eq!(line, wanted, "line {}", number + 1);

@@ -1,14 +1,15 @@
 //! Items for generated uploads: valid ones, whole plans, and items at the edges
 //! of every rule.
 
-use crate::items::{DO_JUMP, RETURN_POINT, VERTEX_EXCLUSION, VERTEX_INCLUSION};
+use crate::items::{DO_JUMP, LAND, RETURN_HOME, RETURN_POINT, VERTEX_EXCLUSION, VERTEX_INCLUSION};
 use crate::layout::{address, Item};
 use crate::limits::*;
 use crate::random::Random;
 
 const POSITIONAL_FRAMES: [u8; 6] = [0, 3, 5, 6, 10, 11];
-const NAV_COMMANDS: [u16; 8] = [16, 17, 18, 19, 20, 21, 22, 31];
-const FLIGHT_COMMANDS: [u16; 14] = [16, 17, 18, 19, 20, 21, 22, 31, 112, 114, 115, 177, 178, 183];
+const NAV_COMMANDS: [u16; 8] = [16, 17, 18, 19, RETURN_HOME, LAND, 22, 31];
+const FLIGHT_COMMANDS: [u16; 14] =
+    [16, 17, 18, 19, RETURN_HOME, LAND, 22, 31, 112, 114, 115, DO_JUMP, 178, 183];
 const FENCE_COMMANDS: [u16; 5] = [5000, 5001, 5002, 5003, 5004];
 const RALLY_COMMAND: u16 = 5100;
 /// Commands beside the table's rows.
@@ -71,18 +72,36 @@ fn coordinate(random: &mut Random, limit: i64) -> i32 {
     value as i32
 }
 
+/// A place that is judged: within the limits, its height a number.
+fn place(random: &mut Random) -> (i32, i32, u32) {
+    let heights = [0, 0x4248_0000, 0xC120_0000, 0x8000_0000, 0x7F7F_FFFF, 1];
+    (coordinate(random, MAX_X), coordinate(random, MAX_Y), random.pick(&heights))
+}
+
+/// A place of a command that is not positional: often past every limit.
+fn free_place(random: &mut Random) -> (i32, i32, u32) {
+    let (x, y, z) = place(random);
+    (
+        if random.chance(1, 4) { edge_coordinate(random, MAX_X as i32) } else { x },
+        if random.chance(1, 4) { edge_coordinate(random, MAX_Y as i32) } else { y },
+        if random.chance(1, 4) { random.pick(&EDGE_FLOATS) } else { z },
+    )
+}
+
 /// Position, frame and the fields that are not judged.
 fn body(random: &mut Random, kind: usize, number: u16, command: u16) -> Item {
-    let positional = kind != FLIGHT || NAV_COMMANDS.contains(&command);
+    let navigates = NAV_COMMANDS.contains(&command) && command != RETURN_HOME;
+    let positional = kind != FLIGHT || navigates;
     let frame = match random.chance(1, 2) && !positional {
         true => 2,
         false => random.pick(&POSITIONAL_FRAMES),
     };
+    let (x, y, z) = if positional { place(random) } else { free_place(random) };
     Item {
         params: std::array::from_fn(|_| free_param(random)),
-        x: coordinate(random, MAX_X),
-        y: coordinate(random, MAX_Y),
-        z: random.pick(&[0, 0x4248_0000, 0xC120_0000, 0x8000_0000, 0x7F7F_FFFF, 1]),
+        x,
+        y,
+        z,
         seq: number,
         command,
         to: address(0, 0),
@@ -258,7 +277,7 @@ fn zero(negative: bool) -> u32 {
 
 /// An item of a kind with some fields at an edge, valid or not.
 pub fn edge_item(random: &mut Random, kind: usize, number: u16, count: u16) -> Item {
-    let judged = random.pick(&[16, 112, 115, 115, 177, 177, 178, 183]);
+    let judged = random.pick(&[16, RETURN_HOME, LAND, 112, 115, 115, 177, 177, 178, 183]);
     let command = match kind == FLIGHT && random.chance(2, 3) {
         true => judged,
         false => random.pick(commands(kind)),
