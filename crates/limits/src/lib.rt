@@ -1,4 +1,4 @@
-// Document 01's kinds, results and limits as constants of the code. What each is called in the specifications is in
+// The documents' kinds, results and limits as constants of the code. What each is called in the specifications is in
 // crates/rules/specs/Limits.antt, of the commands in Items.antt.
 
 // The kinds of plan; CLEAR_ALL may also speak of every kind.

@@ -1,4 +1,5 @@
--- Laws of the rules' definitions, proved here once for the crates above, and reading back. Who reads the rules can pass the laws over.
+-- Laws of the rules' definitions, proved here once for the crates above; reading back; and that stored plans stay valid. Who reads the rules can pass the
+-- laws over.
 pub mod Tests
 pub mod Lists
 pub mod Numbers
