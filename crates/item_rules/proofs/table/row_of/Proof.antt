@@ -1,17 +1,19 @@
 -- At each command that the table names, the row is the one that looking it up finds, by computation. A range of two commands is taken
 -- apart into them. Any other command is none of the rows' commands.
 use Prim.Native.Nat.{ℕ, zero, suc, _+_, _≤_, _<_}
-use mathlib.Core.Path.{_≡_, refl, sym, _∙_, subst}
-use mathlib.Core.Logic.{_⊎_, inl, inr, ⊎-elim}
+use mathlib.Core.Path.{_≡_, refl, sym, subst}
+use mathlib.Core.Logic.{⊎-elim}
 use mathlib.Core.List.{List, [], _∷_}
 use mathlib.Core.Bool.{Bool, true, false, _&&_, _||_}
 use native.Mathlib.Nat.{eq-or-lt-of-le}
 use native.Mathlib.Omega.{arith}
-use lib.Dec.{T, eqb, ltb, leb}
+use lib.Dec.{T, ltb, leb}
 use lib.Ieee.Fits.{and-l, and-r}
+use mir.Val.{hasKey}
+use types.Run.{OneOf, hit}
 use borrow.Author.Needs.{needs}
-use borrow.Author.Tests.{ne-eqb, ltb-true, leb-true, eqb-true}
-use Rattle.rules.specs.Items.{Row, commands, among as anyOf}
+use borrow.Author.Tests.{ne-eqb, ltb-true, leb-true}
+use Rattle.rules.specs.Items.{Row, commands}
 use Rattle.item_rules.specs.Table.{lookup, lookedUp, noRow}
 use Rattle.item_rules.specs.declared.table.Listing.{Listing}
 use Rattle.item_rules.proofs.table.row_of.Statement.{statement}
@@ -37,44 +39,59 @@ among P n k (suc w) l h a =
 within : {l m : Listing} {n : ℕ} (k w : ℕ) → m ≡ l → k ≤ n → n < k + w → Along (Agrees l) k w → Agrees m n
 within {l} {m} {n} k w e low high a = subst (λ (x : Listing). Agrees x n) (sym e) (among (Agrees l) n k w low high a)
 
-past : {k n : ℕ} → k ≤ n → (n ≡ k → ⊥) → suc k ≤ n
-past l d = ⊎-elim (λ e. absurd (d (sym e))) (λ g. g) (eq-or-lt-of-le l)
+-- ---- a command that is none of the match's single ones
 
--- ---- a command without a row: within some bounds, and none of the numbers ks there
+-- the single commands of its arms, the last arm first
+abbrev singles : List (List ℕ)
+singles = (5100 ∷ []) ∷ (5000 ∷ []) ∷ (183 ∷ []) ∷ (178 ∷ []) ∷ (177 ∷ []) ∷ (115 ∷ []) ∷ (112 ∷ 114 ∷ []) ∷ (20 ∷ []) ∷ (17 ∷ 31 ∷ []) ∷ (16 ∷ []) ∷ []
 
-abbrev NoneOf : List ℕ → ℕ → Type 0
-NoneOf [] n = Unit
-NoneOf (k ∷ ks) n = (n ≡ k → ⊥) × NoneOf ks n
+-- n has missed each of them
+abbrev Missed : List (List ℕ) → ℕ → Type 0
+Missed [] n = Unit {0}
+Missed (ks ∷ arms) n = Missed arms n × (OneOf ks n → ⊥)
 
--- every row's command is outside the bounds, or one of ks
-abbrev outside : ℕ → ℕ → List ℕ → List Row → Bool
-outside low high ks [] = true
-outside low high ks (r ∷ rs) = (ltb (r .command) low || (leb high (r .command) || anyOf ks (r .command))) && outside low high ks rs
+abbrev single : List (List ℕ) → ℕ → Bool
+single [] k = false
+single (ks ∷ arms) k = hasKey ks k || single arms k
 
-not-among : (ks : List ℕ) (n k : ℕ) → NoneOf ks n → T (anyOf ks k) → k ≡ n → ⊥
-not-among [] n k d t e = t
-not-among (m ∷ ks) n k d t e = go (eqb m k) refl t (λ later. not-among ks n k (d .1) later e)
+one-of : (ks : List ℕ) (k n : ℕ) → T (hasKey ks k) → n ≡ k → OneOf ks n
+one-of ks k n t e = hit ks n (subst (λ (x : ℕ). T (hasKey ks x)) (sym e) t)
+
+missed : (arms : List (List ℕ)) {n : ℕ} → Missed arms n → (k : ℕ) → T (single arms k) → n ≡ k → ⊥
+missed [] m k t e = t
+missed (ks ∷ arms) {n} m k t e = go (hasKey ks k) refl t (missed arms (m .0) k)
   where
-    go : (b : Bool) → eqb m k ≡ b → T (b || anyOf ks k) → (T (anyOf ks k) → ⊥) → ⊥
-    go true h t f = d .0 (sym e ∙ sym (eqb-true m k h))
-    go false h t f = f t
+    go : (b : Bool) → hasKey ks k ≡ b → T (b || single arms k) → (T (single arms k) → n ≡ k → ⊥) → ⊥
+    go true h t later = m .1 (one-of ks k n (rw h tt) e)
+    go false h t later = later t e
 
-module _ (n low high : ℕ) (ks : List ℕ) (l : low ≤ n) (h : n < high) (d : NoneOf ks n) where
-  apart : (k : ℕ) → T (ltb k low || (leb high k || anyOf ks k)) → k ≡ n → ⊥
+-- so it is past k where it is not before
+past : {k n : ℕ} → k ≤ n → Missed singles n → T (single singles k) → suc k ≤ n
+past {k} l m t = ⊎-elim (λ e. absurd (missed singles m k t (sym e))) (λ g. g) (eq-or-lt-of-le l)
+
+-- ---- a command without a row: within some bounds, and none of the single ones
+
+-- every row's command is outside the bounds, or a single one
+abbrev outside : ℕ → ℕ → List Row → Bool
+outside low high [] = true
+outside low high (r ∷ rs) = (ltb (r .command) low || (leb high (r .command) || single singles (r .command))) && outside low high rs
+
+module _ (n low high : ℕ) (l : low ≤ n) (h : n < high) (m : Missed singles n) where
+  apart : (k : ℕ) → T (ltb k low || (leb high k || single singles k)) → k ≡ n → ⊥
   apart k t e = go (ltb k low) (leb high k) refl refl t
     where
-      go : (a b : Bool) → ltb k low ≡ a → leb high k ≡ b → T (a || (b || anyOf ks k)) → ⊥
+      go : (a b : Bool) → ltb k low ≡ a → leb high k ≡ b → T (a || (b || single singles k)) → ⊥
       go true b p q t = omega (arith, ltb-true k low p, e)
       go false true p q t = omega (arith, leb-true high k q, e)
-      go false false p q t = not-among ks n k d t e
+      go false false p q t = missed singles m k t (sym e)
 
-  unlisted : (rs : List Row) → T (outside low high ks rs) → noRow ≡ lookup n rs
+  unlisted : (rs : List Row) → T (outside low high rs) → noRow ≡ lookup n rs
   unfolding lookup
   unlisted [] t = refl
   unlisted (r ∷ rs) t =
-      let first = ltb (r .command) low || (leb high (r .command) || anyOf ks (r .command)) in
-      rw (ne-eqb (r .command) n (apart (r .command) (and-l first (outside low high ks rs) t)))
-      (unlisted rs (and-r first (outside low high ks rs) t))
+      let first = ltb (r .command) low || (leb high (r .command) || single singles (r .command)) in
+      rw (ne-eqb (r .command) n (apart (r .command) (and-l first (outside low high rs) t)))
+      (unlisted rs (and-r first (outside low high rs) t))
 
 listed-as-requires : tie.Need-listed-as-requires
 listed-as-requires c κs = search needs
@@ -146,7 +163,7 @@ returns-8 c = at (c .listed-as8 .ensures) (c .before .match .keys10) refl
 
 returns-9 : tie.Need-returns-9
 unfolding lookup
-returns-9 c = within 5001 2 (c .listed-as9 .ensures) (past (c .before .before .if4 .left) (c .before .before .before .before .before .before .match .rest .0 .1)) (c .before .if5 .taken) (refl, (refl, tt))
+returns-9 c = within 5001 2 (c .listed-as9 .ensures) (past (c .before .before .if4 .left) (c .before .before .before .before .before .before .match .rest) tt) (c .before .if5 .taken) (refl, (refl, tt))
 
 returns-10 : tie.Need-returns-10
 unfolding lookup
@@ -154,39 +171,31 @@ returns-10 c = within 5003 2 (c .listed-as10 .ensures) (c .before .before .if5 .
 
 returns-11 : tie.Need-returns-11
 unfolding lookup
-returns-11 c = unlisted (c .before .before .args .command) 0 16 [] (omega arith) (c .if1 .taken) tt commands tt
+returns-11 c = unlisted (c .before .before .args .command) 0 16 (omega arith) (c .if1 .taken) (c .before .match .rest) commands tt
 
 returns-12 : tie.Need-returns-12
 unfolding lookup
 returns-12 c =
-    let to183 = c .before .before .before .before .match .rest .0 .0 in
-    let to177 = to183 .0 .0 in
-    let to114 = to177 .0 .0 in
-    unlisted (c .before .before .before .before .before .args .command) 23 5000 (31 ∷ 112 ∷ 114 ∷ 115 ∷ 177 ∷ 178 ∷ 183 ∷ [])
-    (c .before .if3 .left)
-    (c .if4 .taken)
-    ((λ e. to114 .0 .0 .1 (inr e)), ((λ e. to114 .1 (inl e)), ((λ e. to114 .1 (inr e)), (to177 .0 .1, (to177 .1, (to183 .0 .1, (to183 .1, tt)))))))
-    commands
-    tt
+    let rest = c .before .before .before .before .match .rest in
+    unlisted (c .before .before .before .before .before .args .command) 23 5000 (c .before .if3 .left) (c .if4 .taken) rest commands tt
 
 returns-13 : tie.Need-returns-13
 unfolding lookup
 returns-13 c =
     let rest = c .before .before .before .before .before .before .match .rest in
-    let start = c .before .before .before .before .before .before .before in
-    unlisted (start .args .command) 5005 65536 (5100 ∷ []) (c .if6 .left) (omega arith) (rest .1, tt) commands tt
+    unlisted (c .before .before .before .before .before .before .before .args .command) 5005 65536 (c .if6 .left) (omega arith) rest commands tt
 
 returns-14 : tie.Need-returns-14
 unfolding lookup
 returns-14 c =
     ⊎-elim (λ k. ⊎-elim (λ h. at (c .listed-as11 .ensures) h refl) (λ h. at (c .listed-as11 .ensures) h refl) (k .keys2))
-    (λ k. within 21 2 (c .listed-as11 .ensures) (past (k .2 .left) (k .0 .rest .0 .0 .0 .0 .0 .0 .0 .1)) (k .3 .taken) (refl, (refl, tt))) (c .before .match .came)
+    (λ k. within 21 2 (c .listed-as11 .ensures) (past (k .2 .left) (k .0 .rest) tt) (k .3 .taken) (refl, (refl, tt))) (c .before .match .came)
 
 returns-15 : tie.Need-returns-15
 unfolding lookup
 returns-15 c =
     ⊎-elim (λ k. at (c .listed-as12 .ensures) (k .keys1) refl)
-    (λ k. within 18 2 (c .listed-as12 .ensures) (past (past (k .1 .left) (k .0 .rest .0 .0 .0 .0 .0 .0 .0 .0 .0 .1)) (λ e. k .0 .rest .0 .0 .0 .0 .0 .0 .0 .0 .1 (inl e))) (k .2 .taken) (refl, (refl, tt))) (c .before .match .came)
+    (λ k. within 18 2 (c .listed-as12 .ensures) (past (past (k .1 .left) (k .0 .rest) tt) (k .0 .rest) tt) (k .2 .taken) (refl, (refl, tt))) (c .before .match .came)
 
 pub row-of-spec : {M : Type 1} → statement M
 row-of-spec =
