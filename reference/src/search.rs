@@ -34,9 +34,7 @@ pub fn next_command(state: &mut State, store: &[u8], fault: Fault) -> Command {
         let is_jump = item.command == DO_JUMP;
         let jumps_before = if is_jump { shelf.jumps_before(store, at) } else { 0 };
         let standing = Standing { kind: FLIGHT, number: at, count: length, jumps_before };
-        let trusted = fault.is(Fault::SearchTrusts) && !is_jump;
-        let judging = if fault.is(Fault::HomeStuck) { Fault::HomePositional } else { fault };
-        if !trusted && judge(&item, &standing, judging).is_err() {
+        if breaks_rules(&item, &standing, fault) {
             return Command::Stuck;
         }
         if !is_jump {
@@ -64,6 +62,13 @@ pub fn next_command(state: &mut State, store: &[u8], fault: Fault) -> Command {
         at = target;
     }
     Command::Finished
+}
+
+/// Whether an item that the search meets is not valid.
+fn breaks_rules(item: &Item, standing: &Standing, fault: Fault) -> bool {
+    let trusted = fault.is(Fault::SearchTrusts) && item.command != DO_JUMP;
+    let judging = if fault.is(Fault::HomeStuck) { Fault::HomePositional } else { fault };
+    !trusted && judge(item, standing, judging).is_err()
 }
 
 /// Target and repeat of a valid jump.
