@@ -1,12 +1,12 @@
--- M-101, "Stored plans stay valid": a row of the command table that is made not positional accepts every item that it accepted.
+-- M-101, "Stored plans stay valid": a row of the command table that is made not positional accepts every item that it accepted. And return home is valid at any place.
 use Prim.Native.Nat.{ℕ, _<_}
 use native.Mathlib.Omega.{arith}
-use mathlib.Core.Path.{_≡_}
+use mathlib.Core.Path.{_≡_, refl}
 use mathlib.Core.List.{List, [], _∷_, map}
 use mathlib.Core.Bool.{Bool, true, false, not, cond, _&&_, _||_}
 use lib.ListN.{length, getD, take}
 use lib.Dec.{eqb}
-use Rattle.rules.specs.Limits.{xLimit, yLimit, accepted, unsupported, unsupportedFrame}
+use Rattle.rules.specs.Limits.{flight, xLimit, yLimit, accepted, unsupported, unsupportedFrame}
 use Rattle.rules.specs.Payload.{Bytes}
 use Rattle.rules.specs.Messages.{Item, itemIn}
 use Rattle.rules.specs.Values.{signed, within, float, finite}
@@ -94,3 +94,8 @@ ValidBy table kind items =
 pub plan-stays : (kind : ℕ) (items : List Bytes) → ValidBy commandsBefore kind items → ValidBy commands kind items
 unfolding fault
 plan-stays kind items valid n inside = item-stays kind (length items) n (jumpsAmong (take n items)) (itemIn (getD items n [])) (valid n inside)
+
+-- Return home in a frame of the DO commands is valid, whatever its params, x, y and z.
+pub home-valid : (count own jumps : ℕ) (item : Item) → item .command ≡ returnHome → frameOk false (item .frame) ≡ true → fault flight count own jumps item ≡ accepted
+unfolding fault faultAmong faultIn paramOk placeFault
+home-valid count own jumps item c f = rw c (rw f refl)
