@@ -1,4 +1,5 @@
--- M-101, "Stored plans stay valid": a row of the command table that is made not positional accepts every item that it accepted. And return home is valid at any place.
+-- M-101, "Stored plans stay valid": a row of the command table that is made not positional accepts every item that it accepted. And the result for
+-- return home, which its frame alone settles.
 use Prim.Native.Nat.{ℕ, _<_}
 use native.Mathlib.Omega.{arith}
 use mathlib.Core.Path.{_≡_, refl}
@@ -95,7 +96,11 @@ pub plan-stays : (kind : ℕ) (items : List Bytes) → ValidBy commandsBefore ki
 unfolding fault
 plan-stays kind items valid n inside = item-stays kind (length items) n (jumpsAmong (take n items)) (itemIn (getD items n [])) (valid n inside)
 
--- Return home in a frame of the DO commands is valid, whatever its params, x, y and z.
-pub home-valid : (count own jumps : ℕ) (item : Item) → item .command ≡ returnHome → frameOk false (item .frame) ≡ true → fault flight count own jumps item ≡ accepted
+-- Return home is judged by its frame alone, which must be one of the DO commands' frames: whatever its params, x, y and z.
+pub home-result : (count own jumps : ℕ) (item : Item) → item .command ≡ returnHome → fault flight count own jumps item ≡ cond (frameOk false (item .frame)) accepted unsupportedFrame
 unfolding fault faultAmong faultIn paramOk placeFault
-home-valid count own jumps item c f = rw c (rw f refl)
+home-result count own jumps item c = rw c (go (frameOk false (item .frame)))
+  where
+    go : (t : Bool) → cond (not t) unsupportedFrame accepted ≡ cond t accepted unsupportedFrame
+    go true = refl
+    go false = refl

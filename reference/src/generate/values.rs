@@ -277,7 +277,7 @@ fn zero(negative: bool) -> u32 {
 
 /// An item of a kind with some fields at an edge, valid or not.
 pub fn edge_item(random: &mut Random, kind: usize, number: u16, count: u16) -> Item {
-    let judged = random.pick(&[16, RETURN_HOME, LAND, 112, 115, 115, 177, 177, 178, 183]);
+    let judged = random.pick(&[16, RETURN_HOME, LAND, 112, 115, 115, DO_JUMP, DO_JUMP, 178, 183]);
     let command = match kind == FLIGHT && random.chance(2, 3) {
         true => judged,
         false => random.pick(commands(kind)),

@@ -13,7 +13,7 @@ use mir.Val.{hasKey}
 use types.Run.{OneOf, hit}
 use borrow.Author.Needs.{needs}
 use borrow.Author.Tests.{ne-eqb, ltb-true, leb-true}
-use Rattle.rules.specs.Items.{Row, commands}
+use Rattle.rules.specs.Items.{Row, commands, returnHome, delay, distance, yaw, jump, changeSpeed, setServo, returnPoint}
 use Rattle.item_rules.specs.Table.{lookup, lookedUp, noRow}
 use Rattle.item_rules.specs.declared.table.Listing.{Listing}
 use Rattle.item_rules.proofs.table.row_of.Statement.{statement}
@@ -43,7 +43,8 @@ within {l} {m} {n} k w e low high a = subst (λ (x : Listing). Agrees x n) (sym 
 
 -- the single commands of its arms, the last arm first
 abbrev singles : List (List ℕ)
-singles = (5100 ∷ []) ∷ (5000 ∷ []) ∷ (183 ∷ []) ∷ (178 ∷ []) ∷ (177 ∷ []) ∷ (115 ∷ []) ∷ (112 ∷ 114 ∷ []) ∷ (20 ∷ []) ∷ (17 ∷ 31 ∷ []) ∷ (16 ∷ []) ∷ []
+singles =
+    (5100 ∷ []) ∷ (returnPoint ∷ []) ∷ (setServo ∷ []) ∷ (changeSpeed ∷ []) ∷ (jump ∷ []) ∷ (yaw ∷ []) ∷ (delay ∷ distance ∷ []) ∷ (returnHome ∷ []) ∷ (17 ∷ 31 ∷ []) ∷ (16 ∷ []) ∷ []
 
 -- n has missed each of them
 abbrev Missed : List (List ℕ) → ℕ → Type 0
