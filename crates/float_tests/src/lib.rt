@@ -1,6 +1,6 @@
 // The tests that the item rules make of floats.
 ghost use mathlib.Core.Path.{_≡_};
-ghost use Rattle.rules.specs.Values.{finite, atLeastZero, aboveZero, zeroTo};
+ghost use Rattle.rules.specs.Values.{finite, atLeastZero, aboveZero, zeroTo, wholeOf, isNone};
 
 pub fn is_finite(x: f32) -> bool
     ensures { λ r. ⌜ r ≡ finite x ⌝ }
@@ -25,4 +25,11 @@ pub fn zero_to(limit: u16, x: f32) -> bool
     ensures { λ r. ⌜ r ≡ zeroTo limit x ⌝ }
 {
     (0.0 <= x) & (x <= limit as f32)
+}
+
+// NaN alone differs from itself.
+pub fn is_none(x: f32) -> bool
+    ensures { λ r. ⌜ r ≡ isNone (wholeOf x) ⌝ }
+{
+    x != x
 }

@@ -11,7 +11,6 @@ ghost use Rattle.rules.specs.Items.{isJump};
 ghost use Rattle.rules.specs.NextCommand.{repeatOf};
 ghost use Rattle.rules.specs.Values.{float, wholeOf, wholeNumber};
 ghost use Rattle.item.specs.Patterns.{itemFor, itemWith, patterns};
-ghost use Rattle.values.specs.Wholes.{whole32, number31};
 
 // Params, x, y and z as values, with their 32-bit patterns beside them: a NaN's bits do not survive an f32.
 pub struct Item {
@@ -82,26 +81,30 @@ pub fn is_jump(item: Item) -> bool
     item.command == JUMP
 }
 
-// Param 1 as a number: a jump's target, a servo's channel, a vertex's count of vertices. 0 where it is none of 31 bits.
+// Param 1 as a number: a jump's target, a servo's channel, a vertex's count of vertices. 0 where it is none that is at least 0.
 pub fn number1(item: Item) -> u32
     requires { ⌜ item ≡ itemFor (patterns item) ⌝ }
-    ensures { λ r. ⌜ r ≡ number31 (wholeNumber (wholeOf (float (patterns item .param1)))) ⌝ }
+    ensures { λ r. ⌜ r ≡ wholeNumber (wholeOf (float (patterns item .param1))) ⌝ }
 {
     values::number_of(item.param1)
 }
 
-// Param 2 as a number: a servo's pulse. 0 where it is none of 31 bits.
+// Param 2 as a number: a servo's pulse. 0 where it is none that is at least 0.
 pub fn number2(item: Item) -> u32
     requires { ⌜ item ≡ itemFor (patterns item) ⌝ }
-    ensures { λ r. ⌜ r ≡ number31 (wholeNumber (wholeOf (float (patterns item .param2)))) ⌝ }
+    ensures { λ r. ⌜ r ≡ wholeNumber (wholeOf (float (patterns item .param2))) ⌝ }
 {
     values::number_of(item.param2)
 }
 
-// A jump's repeat.
-pub fn repeat_of(item: Item) -> Whole
+// A jump's repeat: 1 where param 2 has no value.
+pub fn repeat_of(item: Item) -> i32
     requires { ⌜ item ≡ itemFor (patterns item) ⌝ }
-    ensures { λ r. ⌜ r ≡ whole32 (repeatOf (patterns item)) ⌝ }
+    ensures { λ r. ⌜ r ≡ repeatOf (patterns item) ⌝ }
 {
-    values::whole_of(item.param2)
+    match values::whole_of(item.param2) {
+        Whole::Integer(times) => times,
+        Whole::NoValue => 1,
+        Whole::NotWhole => 0,
+    }
 }

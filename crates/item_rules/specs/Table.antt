@@ -5,7 +5,7 @@ use mathlib.Core.Bool.{cond}
 use lib.Dec.{eqb}
 use Rattle.rules.specs.Items as rules
 use Rattle.item_rules.specs.declared.table.ParamRule.{ParamRule}
-use Rattle.item_rules.specs.declared.table.ParamRule.the-variants.{Anything, Finite, AtLeastZero, AboveZero, UpTo, Whole, Target}
+use Rattle.item_rules.specs.declared.table.ParamRule.the-variants.{Anything, Finite, AtLeastZero, AboveZero, UpTo, Whole, WholeOrNone, Target}
 use Rattle.item_rules.specs.declared.table.Row.{Row}
 use Rattle.item_rules.specs.declared.table.Listing.{Listing}
 use Rattle.item_rules.specs.declared.table.Listing.the-variants.{Listed, NotListed}
@@ -18,6 +18,7 @@ ruleOf AtLeastZero = rules.isAtLeastZero
 ruleOf AboveZero = rules.isAboveZero
 ruleOf (UpTo limit) = rules.isUpTo limit
 ruleOf (Whole low high) = rules.isWhole low high
+ruleOf (WholeOrNone low high) = rules.isWholeOrNone low high
 ruleOf Target = rules.isTarget
 
 -- a command's row

@@ -38,6 +38,7 @@ fn whole_within(low: i32, high: i32, x: f32) -> bool
 {
     match values::whole_of(x) {
         Whole::Integer(n) => (low <= n) & (n <= high),
+        Whole::NoValue => false,
         Whole::NotWhole => false,
     }
 }
@@ -47,6 +48,7 @@ fn is_target(count: u16, own: u16, x: f32) -> bool
 {
     match values::whole_of(x) {
         Whole::Integer(n) => (0 <= n) & (n < count as i32) & (n != own as i32),
+        Whole::NoValue => false,
         Whole::NotWhole => false,
     }
 }
@@ -61,6 +63,7 @@ fn param_ok(rule: ParamRule, count: u16, own: u16, x: f32) -> bool
         ParamRule::AboveZero => values::above_zero(x),
         ParamRule::UpTo(limit) => values::zero_to(limit, x),
         ParamRule::Whole(low, high) => whole_within(low, high, x),
+        ParamRule::WholeOrNone(low, high) => values::is_none(x) | whole_within(low, high, x),
         ParamRule::Target => is_target(count, own, x),
     }
 }

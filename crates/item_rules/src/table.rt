@@ -22,6 +22,8 @@ pub enum ParamRule {
     UpTo(u16),
     // Whole, from the first number to the second.
     Whole(i32, i32),
+    // The same, or no value.
+    WholeOrNone(i32, i32),
     // Whole, at least 0, below the count, not the item's own number.
     Target,
 }
@@ -65,7 +67,7 @@ pub fn row_of(command: u16) -> Listing
             FLIGHT,
             false,
             ParamRule::Target,
-            ParamRule::Whole(-1, 32767),
+            ParamRule::WholeOrNone(-1, 32767),
         ),
         CHANGE_SPEED => listed_as(FLIGHT, false, ParamRule::Anything, ParamRule::Finite),
         SET_SERVO => listed_as(

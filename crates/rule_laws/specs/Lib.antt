@@ -1,5 +1,5 @@
--- Laws of the rules' definitions, proved here once for the crates above; reading back; and that stored plans stay valid. Who reads the rules can pass the
--- laws over.
+-- Laws of the rules' definitions, proved here once for the crates above; reading back; that stored plans stay valid; and what a reading as a whole number
+-- means. Who reads the rules can pass the laws over.
 pub mod Tests
 pub mod Lists
 pub mod Numbers
@@ -14,4 +14,6 @@ pub mod Fitted
 pub mod Replies
 pub mod Refused
 pub mod StayValid
+pub mod Valid
+pub mod Wholes
 pub mod ReadBack

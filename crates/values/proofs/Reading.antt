@@ -12,11 +12,9 @@ use lib.Ieee.{Float, nan, inf, fin, binary64, up, down, lt, le, eq, ofInt, toSig
 use lib.Ieee.Fits.{down-pos}
 use lib.Ieee.Exact.{HasValue}
 use lib.Ieee.Back.{round-whole}
-use borrow.Author.Tests.{lt-ltb, le-ltb, eq-eqb, ne-eqb, ltb-true, ltb-false, leb-true, leb-false, eqb-true, eqb-false}
+use borrow.Author.Tests.{lt-ltb, le-ltb, le-leb, lt-leb, eq-eqb, ne-eqb, ltb-true, ltb-false, leb-true, leb-false, eqb-true, eqb-false}
 use Rattle.rules.specs.Limits.{halfClock}
-use Rattle.rules.specs.Values.{wholeOf, integer, notWhole}
-use Rattle.values.specs.declared.Whole.the-variants.{Integer, NotWhole}
-use Rattle.values.specs.Wholes.{whole32}
+use Rattle.rules.specs.Values.{integer, noValue, notWhole, inWord, signedAs, wholeOf, isNone}
 use Rattle.rule_laws.specs.Tests.{eqb-sym}
 use Rattle.float_tests.proofs.NumberTests.{le-or-eq, eqb-scaled}
 
@@ -27,15 +25,11 @@ lowest = fin true 1 (pos 31)
 abbrev pub bound : Float
 bound = fin false 1 (pos 31)
 
--- the integer of a sign and a magnitude
-abbrev signing : Bool → ℕ → ℤ
-signing s q = cond s (negℤ (pos q)) (pos q)
-
 -- ---- within the range
 
 record Within (s : Bool) (q : ℕ) : Type 0 where
   most : q ≤ halfClock
-  fits : mag (signing s q) < halfClock
+  fits : mag (signedAs s q) < halfClock
 
 negative : (q : ℕ) → q ≤ halfClock → mag (negℤ (pos q)) < halfClock
 negative zero h = omega arith
@@ -64,7 +58,7 @@ capped : (q c : ℕ) → q ≤ halfClock → halfClock ≤ c → min q c ≡ q
 capped q c h k = min-eq-left (le-trans h k)
 
 -- cut toward zero
-cut-is : (s : Bool) (m : ℕ) (e : ℤ) → m * up e / down e ≤ halfClock → toSigned 63 (fin s m e) ≡ signing s (m * up e / down e)
+cut-is : (s : Bool) (m : ℕ) (e : ℤ) → m * up e / down e ≤ halfClock → toSigned 63 (fin s m e) ≡ signedAs s (m * up e / down e)
 unfolding toSigned
 cut-is true m e h = ap (λ (q : ℕ). negℤ (pos q)) (capped (m * up e / down e) (2 ^ 63) h (omega arith))
 cut-is false m e h = ap pos (capped (m * up e / down e) (2 ^ 63 - 1) h (omega arith))
@@ -75,7 +69,7 @@ cut-is false m e h = ap pos (capped (m * up e / down e) (2 ^ 63 - 1) h (omega ar
 abbrev sign : Bool → ℕ → Bool
 sign s q = s && ltb 0 q
 
-as-float : (s : Bool) (q : ℕ) → q ≤ halfClock → HasValue (ofInt binary64 (signing s q)) (sign s q) q 1
+as-float : (s : Bool) (q : ℕ) → q ≤ halfClock → HasValue (ofInt binary64 (signedAs s q)) (sign s q) q 1
 unfolding ofInt
 as-float false q h = round-whole binary64 false q (omega arith)
 as-float true zero h = round-whole binary64 false 0 (omega arith)
@@ -112,16 +106,25 @@ exact p d = go (eqb (p % d) 0) refl (div-add-mod' p d)
 
 -- ---- the reading
 
--- what `whole32` makes of a number in the range
-in-range : (t : Bool) (z : ℤ) → mag z < halfClock → cond t (Integer z) NotWhole ≡ whole32 (cond t (integer z) notWhole)
-unfolding whole32
-in-range true z h = rw (lt-ltb (mag z) halfClock h)
+-- 32 signed bits by the one bound of `mag`
+in-word : (z : ℤ) → mag z < halfClock → inWord z ≡ integer z
+unfolding inWord
+in-word (pos n) h = rw (lt-ltb n halfClock h)
+in-word (negsuc n) h = rw (le-leb n (halfClock - 1) (omega arith))
+
+beyond-word : (z : ℤ) → halfClock ≤ mag z → inWord z ≡ notWhole
+unfolding inWord
+beyond-word (pos n) h = rw (le-ltb n halfClock h)
+beyond-word (negsuc n) h = rw (lt-leb n (halfClock - 1) (omega arith))
+
+-- a number in the range
+in-range : (t : Bool) (z : ℤ) → mag z < halfClock → cond t (integer z) notWhole ≡ cond t (inWord z) notWhole
+in-range true z h = sym (in-word z h)
 in-range false z h = refl
 
--- and of one that is beyond it where it is whole
-out-of-range : (t : Bool) (z : ℤ) → (t ≡ true → halfClock ≤ mag z) → NotWhole ≡ whole32 (cond t (integer z) notWhole)
-unfolding whole32
-out-of-range true z h = rw (le-ltb (mag z) halfClock (h refl))
+-- and one that is beyond it where it is whole
+out-of-range : (t : Bool) (z : ℤ) → (t ≡ true → halfClock ≤ mag z) → notWhole ≡ cond t (inWord z) notWhole
+out-of-range true z h = sym (beyond-word z (h refl))
 out-of-range false z h = refl
 
 pub cut-fits : (x : Float) → le lowest x ≡ true → lt x bound ≡ true → mag (toSigned 63 x) < halfClock
@@ -151,7 +154,7 @@ cut-defined (fin true m e) l h =
     )
 
 pub reading : (x : Float) → le lowest x ≡ true → lt x bound ≡ true
-    → cond (eq (ofInt binary64 (toSigned 63 x)) x) (Integer (toSigned 63 x)) NotWhole ≡ whole32 (wholeOf x)
+    → cond (eq (ofInt binary64 (toSigned 63 x)) x) (integer (toSigned 63 x)) notWhole ≡ wholeOf x
 unfolding lt le eq wholeOf
 reading nan l h = absurd (false≢true l)
 reading (inf true) l h = absurd (false≢true l)
@@ -159,33 +162,33 @@ reading (inf false) l h = absurd (false≢true h)
 reading (fin s m e) l h =
     let w = within s m e l h in
     let q = m * up e / down e in
-    ap (λ (z : ℤ). cond (eq (ofInt binary64 z) (fin s m e)) (Integer z) NotWhole) (cut-is s m e (w .most))
-    ∙ ap (λ (t : Bool). cond t (Integer (signing s q)) NotWhole)
-    (level-is (ofInt binary64 (signing s q)) s q m e (as-float s q (w .most)) ∙ exact (m * up e) (down e))
-    ∙ in-range (eqb (m * up e % down e) 0) (signing s q) (w .fits)
+    ap (λ (z : ℤ). cond (eq (ofInt binary64 z) (fin s m e)) (integer z) notWhole) (cut-is s m e (w .most))
+    ∙ ap (λ (t : Bool). cond t (integer (signedAs s q)) notWhole)
+    (level-is (ofInt binary64 (signedAs s q)) s q m e (as-float s q (w .most)) ∙ exact (m * up e) (down e))
+    ∙ in-range (eqb (m * up e % down e) 0) (signedAs s q) (w .fits)
 
-pub too-large : (x : Float) → lt x bound ≡ false → NotWhole ≡ whole32 (wholeOf x)
-unfolding lt wholeOf whole32
-too-large nan h = refl
-too-large (inf s) h = refl
-too-large (fin false m e) h =
+pub too-large : (x : Float) → isNone (wholeOf x) ≡ false → lt x bound ≡ false → notWhole ≡ wholeOf x
+unfolding lt wholeOf
+too-large nan some h = absurd (false≢true (sym some))
+too-large (inf s) some h = refl
+too-large (fin false m e) some h =
     out-of-range (eqb (m * up e % down e) 0) (pos (m * up e / down e))
     (λ w. le-div-iff-mul-le (down-pos e) .1 (omega (arith, ltb-false (m * up e * 1) (halfClock * down e) h)))
-too-large (fin true m e) h = absurd (omega (arith, ltb-false 0 (m * up e * 1 + halfClock * down e) h, down-pos e))
+too-large (fin true m e) some h = absurd (omega (arith, ltb-false 0 (m * up e * 1 + halfClock * down e) h, down-pos e))
 
 beyond : (q : ℕ) → halfClock < q → halfClock ≤ mag (negℤ (pos q))
 beyond zero h = absurd (omega arith)
 beyond (suc q) h = omega arith
 
-pub too-small : (x : Float) → le lowest x ≡ false → NotWhole ≡ whole32 (wholeOf x)
-unfolding lt le eq wholeOf whole32
-too-small nan h = refl
-too-small (inf s) h = refl
-too-small (fin false m e) h =
+pub too-small : (x : Float) → isNone (wholeOf x) ≡ false → le lowest x ≡ false → notWhole ≡ wholeOf x
+unfolding lt le eq wholeOf
+too-small nan some h = absurd (false≢true (sym some))
+too-small (inf s) some h = refl
+too-small (fin false m e) some h =
     let more : 0 < halfClock * down e + m * up e * 1 = omega (arith, down-pos e) in
     let holds : le lowest (fin false m e) ≡ true = rw (lt-ltb 0 (halfClock * down e + m * up e * 1) more) in
     absurd (false≢true (sym h ∙ holds))
-too-small (fin true m e) h =
+too-small (fin true m e) some h =
     let p = m * up e in
     let q = m * up e / down e in
     let more : halfClock * down e < p = leb-false p (halfClock * down e) (sym (at-most p (down e)) ∙ h) in

@@ -2,10 +2,11 @@
 // crate float_tests'.
 ghost use mathlib.Core.Path.{_≡_};
 ghost use Rattle.rules.specs.Values.{signed, float, wholeOf, wholeNumber};
-ghost use Rattle.values.specs.Wholes.{whole32, number31};
+ghost use Rattle.values.specs.Wholes.{meant};
 pub use float_tests::above_zero;
 pub use float_tests::at_least_zero;
 pub use float_tests::is_finite;
+pub use float_tests::is_none;
 pub use float_tests::zero_to;
 
 // The float of a bit pattern; of every NaN pattern the NaN.
@@ -28,16 +29,20 @@ pub fn signed_of(bits: u32) -> i32
     -1 - ((0xffff_ffff - bits) as i32)
 }
 
-// An exact reading as a whole number of 32 bits.
+// An exact reading: a whole number of 32 signed bits, no value (NaN), or neither.
 pub enum Whole {
     Integer(i32),
+    NoValue,
     NotWhole,
 }
 
 // Each i32 is a value of f64, so the comparison there decides whether anything was cut off.
 pub fn whole_of(x: f32) -> Whole
-    ensures { λ r. ⌜ r ≡ whole32 (wholeOf x) ⌝ }
+    ensures { λ r. ⌜ meant r ≡ wholeOf x ⌝ }
 {
+    if is_none(x) {
+        return Whole::NoValue;
+    }
     if x >= -2147483648.0 {
         if x < 2147483648.0 {
             let n = std::num::truncating_f32_to_i64(x) as i32;
@@ -49,12 +54,13 @@ pub fn whole_of(x: f32) -> Whole
     Whole::NotWhole
 }
 
-// The whole number that a float is, where it is one of 31 bits; otherwise 0.
+// The whole number that a float is, where it is one that is at least 0; otherwise 0.
 pub fn number_of(x: f32) -> u32
-    ensures { λ r. ⌜ r ≡ number31 (wholeNumber (wholeOf x)) ⌝ }
+    ensures { λ r. ⌜ r ≡ wholeNumber (wholeOf x) ⌝ }
 {
     match whole_of(x) {
         Whole::Integer(n) => { if n < 0 { 0 } else { n as u32 } }
+        Whole::NoValue => 0,
         Whole::NotWhole => 0,
     }
 }

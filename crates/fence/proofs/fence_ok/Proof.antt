@@ -1,5 +1,4 @@
--- The loop's invariant: the reading is that of the items passed. What it is at the end decides as the rules' own reading does, since a fence
--- has fewer items than the numbers that the code reads.
+-- The loop's invariant: the reading is the rules' own of the items passed.
 use mathlib.Core.Path.{_≡_, refl, _∙_, ap}
 use mathlib.Core.Bool.{Bool, not, _&&_}
 use Prim.Native.Nat.{ℕ, _+_, _-_, _≤_}
@@ -13,48 +12,47 @@ use Rattle.rules.specs.Payload.{Bytes}
 use Rattle.rules.specs.Messages.{itemIn}
 use Rattle.rules.specs.Values.{float, wholeOf, wholeNumber}
 use Rattle.rules.specs.Items.{returnPoint}
-use Rattle.rules.specs.Fence.{between, runWith, fenceOk}
-use Rattle.values.specs.Wholes.{number31}
+use Rattle.rules.specs.Fence.{between, runWith, readItems, fenceOk}
 use Rattle.fence.specs.declared.Reading.{Reading}
 use Rattle.places.specs.Part.{part}
-use Rattle.places.specs.Places.{itemAt, itemsIn, offsetOf, offset-within, length-items}
+use Rattle.places.specs.Places.{itemAt, itemsIn, offsetOf, offset-within}
 use Rattle.places.specs.Stored.{withCommand, points-are}
-use Rattle.fence.specs.FenceReading.{readingOf, readAs, readsAs, reads-more, ends-between}
+use Rattle.fence.specs.FenceReading.{readingOf, readAs, reads-more, between-is}
 use Rattle.fence.proofs.fence_ok.Statement.{statement}
 use Rattle.fence.proofs.fence_ok.Tie as tie
 
 -- a turn of the loop, with the callees' answers as variables
 turned : (store : Bytes) (half : Bool) (i at command bits : ℕ) (x : Float) (m : ℕ) (r next : Reading)
-    → readingOf r ≡ readsAs between (itemsIn store half fence i)
+    → readingOf r ≡ readItems between (itemsIn store half fence i)
     → at ≡ offsetOf half fence i
     → command ≡ itemIn (part store at itemBytes) .command
     → bits ≡ itemIn (part store at itemBytes) .param1
     → x ≡ float bits
-    → m ≡ number31 (wholeNumber (wholeOf x))
+    → m ≡ wholeNumber (wholeOf x)
     → readingOf next ≡ readAs (readingOf r) command m
-    → readingOf next ≡ readsAs between (itemsIn store half fence (i + 1))
+    → readingOf next ≡ readItems between (itemsIn store half fence (i + 1))
 unfolding itemsIn itemAt
 turned store half i at command bits x m r next before place ec eb ex em en =
     en ∙ rw (add-one i, reads-more between (itemsIn store half fence i) (itemAt store half fence i), before, em, ex, ec, eb, place)
 
-judged : (store : Bytes) (half : Bool) (n i points : ℕ) (r : Reading) → n ≤ sizeOf fence → i ≤ n → n ≤ i
-    → readingOf r ≡ readsAs between (itemsIn store half fence i)
+judged : (store : Bytes) (half : Bool) (n i points : ℕ) (r : Reading) → i ≤ n → n ≤ i
+    → readingOf r ≡ readItems between (itemsIn store half fence i)
     → points ≡ withCommand returnPoint (itemsIn store half fence n)
     → (not (r .broken) && eqb (r .left) 0 && leb points maxReturnPoints) ≡ fenceOk (itemsIn store half fence n)
 unfolding fenceOk
-judged store half n i points r within most least er ep =
+judged store half n i points r most least er ep =
     let items = itemsIn store half fence n in
-    let read : readingOf r ≡ readsAs between items = er ∙ ap (λ (k : ℕ). readsAs between (itemsIn store half fence k)) (omega arith) in
-    rw (ends-between items r (omega (arith, length-items store half fence n)) read, ep, points-are items)
+    let read : readingOf r ≡ readItems between items = er ∙ ap (λ (k : ℕ). readItems between (itemsIn store half fence k)) (omega arith) in
+    rw (between-is r, read, ep, points-are items)
 
 abbrev Inv-loop : tie.InvT-loop
-Inv-loop store half n reading₀ i₀ reading i = (i ≤ n) × (readingOf reading ≡ readsAs between (itemsIn store half fence i))
+Inv-loop store half n reading₀ i₀ reading i = (i ≤ n) × (readingOf reading ≡ readItems between (itemsIn store half fence i))
 
 abbrev μ-loop : tie.MeasureT-loop
 μ-loop store half n reading₀ i₀ reading i = n - i
 
 loop-holds : tie.Need-loop-holds Inv-loop μ-loop
-unfolding readingOf runWith readsAs itemsIn
+unfolding readingOf runWith readItems itemsIn
 loop-holds c = (omega arith, refl)
 
 place-at-requires : tie.Need-place-at-requires Inv-loop μ-loop

@@ -1,7 +1,6 @@
 -- The param is its pattern's value, by what the function requires.
 use mathlib.Core.Path.{ap, _∙_}
 use Rattle.rules.specs.Values.{wholeOf, wholeNumber}
-use Rattle.values.specs.Wholes.{number31}
 use Rattle.item.specs.declared.Item.{Item}
 use borrow.Author.Needs.{needs}
 use Rattle.item.proofs.number2.Statement.{statement}
@@ -11,7 +10,7 @@ number-of-requires : tie.Need-number-of-requires
 number-of-requires c κs = search needs
 
 returns : tie.Need-returns
-returns c = c .number-of .ensures ∙ ap (λ (i : Item). number31 (wholeNumber (wholeOf (i .param2)))) (c .before .pre)
+returns c = c .number-of .ensures ∙ ap (λ (i : Item). wholeNumber (wholeOf (i .param2))) (c .before .pre)
 
 pub number2-spec : {M : Type 1} → statement M
 number2-spec = tie.close (tie.spec number-of-requires returns)

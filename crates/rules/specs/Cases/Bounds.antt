@@ -1,16 +1,18 @@
--- Cases on both sides of each bound: the items' frames, params and coordinates, those of return home (M-101), and the numbers of the state. One table,
--- and one statement: every case holds.
+-- Cases on both sides of each bound: the items' frames, params and coordinates, those of return home (M-101), params without a value (M-105), and the
+-- numbers of the state. One table, and one statement: every case holds.
 use Prim.Native.Nat.{ℕ}
 use mathlib.Core.Path.{refl}
 use mathlib.Core.List.{List, [], _∷_, _++_, map}
 use mathlib.Core.Bool.{false}
 use lib.ListN.{getD, set, replicate}
+use lib.IntN.{pos, negsuc}
 use Rattle.rules.specs.Limits.{flight, fence, rally}
+use Rattle.rules.specs.Values.{float, Whole, integer, noValue, notWhole, wholeOf}
 use Rattle.rules.specs.Messages.{Item, count, ack, requestInt, itemInt}
 use Rattle.rules.specs.Model.{Model, Plan, idle, running, fresh}
 use Rattle.rules.specs.NextCommand.{fly, finished, stuck}
-use Rattle.rules.specs.Step.{Answer, refused, says, replyBytes}
-use Rattle.rules.specs.Cases.{computing, Case, numbers, answer, commands, _is_, Hold, tablet, sendsItem, asksForList, asksForItem, ticks, finishes, after, ordered, withFlight, f1, f2, f3, fNaN, fMinusOne, itemWith, itemAs, waypoint, jumpTo, vertex, plansOf, resting, uploads, judges}
+use Rattle.rules.specs.Step.{Answer, refused, says, run, replyBytes}
+use Rattle.rules.specs.Cases.{computing, Case, numbers, wholes, answer, commands, _is_, Hold, tablet, sendsItem, asksForList, asksForItem, ticks, finishes, after, ordered, withFlight, f1, f2, f3, fNaN, fMinusZero, fMinusOne, itemWith, itemAs, waypoint, jumpTo, vertex, plansOf, resting, uploads, judges}
 use Rattle.rules.specs.Cases.Readings.{readings-hold}
 
 -- ---- the result for an item
@@ -49,6 +51,19 @@ servo channel pulse = itemAs flight 183 0 channel pulse 0
 -- the results for a jump back from item 1, with each of some repeats
 abbrev repeatResults : List ℕ → List ℕ
 repeatResults repeats = map (λ (r : ℕ). resultOf (after fresh (uploads flight 2 (waypoint 0 ∷ [])) (sendsItem tablet 0 (jumpTo 1 0 r)))) repeats
+
+-- ---- params as whole numbers
+
+abbrev wholesOf : List ℕ → List Whole
+wholesOf patterns = map (λ (bits : ℕ). wholeOf (float bits)) patterns
+
+-- NaN, quiet and signalling, of either sign: the first and the last pattern of each
+abbrev noValues : List ℕ
+noValues = 0x7fc00000 ∷ 0x7fffffff ∷ 0x7f800001 ∷ 0x7fbfffff ∷ 0xffc00000 ∷ 0xffffffff ∷ 0xff800001 ∷ 0xffbfffff ∷ []
+
+-- a jump back from item 1 between two waypoints, with a repeat
+abbrev looping : (repeat : ℕ) → List Item
+looping repeat = waypoint 0 ∷ jumpTo 1 0 repeat ∷ waypoint 2 ∷ []
 
 -- ---- the numbers of the state
 
@@ -133,6 +148,36 @@ bounds =
     -- its answer stays Fly; land in frame 2, which a host wrote, is Stuck
     ∷ (commands (ordered (withFlight (home 2 900000001 1800000001 fNaN ∷ []) 1) (finishes ∷ finishes ∷ [])) is commands (fly 0 ∷ finished ∷ []))
     ∷ (commands (ordered (withFlight (framed 21 2 ∷ []) 1) (finishes ∷ [])) is commands (stuck ∷ []))
+    -- M-105: a whole number: 0, minus zero, 1, -1; no value: every kind of NaN; not whole: infinities, 0.5, -1.5, the least and the largest number
+    ∷ (wholes (wholesOf (0 ∷ fMinusZero ∷ f1 ∷ fMinusOne ∷ [])) is wholes (integer (pos 0) ∷ integer (pos 0) ∷ integer (pos 1) ∷ integer (negsuc 0) ∷ []))
+    ∷ (wholes (wholesOf noValues) is wholes (replicate 8 noValue))
+    ∷ (wholes (wholesOf (0x7f800000 ∷ 0xff800000 ∷ 0x3f000000 ∷ 0xbfc00000 ∷ 1 ∷ 0x7f7fffff ∷ [])) is wholes (replicate 6 notWhole))
+    -- 32 signed bits: the last number below 2147483648, and it; -2147483648, and the next below it
+    ∷ (wholes (wholesOf (0x4effffff ∷ 0x4f000000 ∷ 0xcf000000 ∷ 0xcf000001 ∷ [])) is wholes (integer (pos 2147483520) ∷ notWhole ∷ integer (negsuc 2147483647) ∷ notWhole ∷ []))
+    -- a jump's repeat may have no value; an infinity and a number beyond 32 bits are refused as before
+    ∷ (numbers (repeatResults noValues) is numbers (replicate 8 0))
+    ∷ (numbers (repeatResults (0x7f800000 ∷ 0xff800000 ∷ 0x4f000000 ∷ 0xcf000000 ∷ 0xcf000001 ∷ [])) is numbers (replicate 5 7))
+    -- elsewhere no value is refused: a jump's target, a servo's channel and pulse, vertices; a fault before it comes first
+    ∷ (numbers (results flight (λ (v : ℕ). jumpTo 0 v 0) noValues) is numbers (replicate 8 6))
+    ∷ (numbers (results flight (λ (v : ℕ). jumpTo 0 v v) noValues) is numbers (replicate 8 6))
+    ∷ (numbers (results flight (λ (v : ℕ). servo v 0x44bb8000) noValues) is numbers (replicate 8 6))
+    ∷ (numbers (results flight (servo f1) noValues) is numbers (replicate 8 7))
+    ∷ (numbers (results fence (byParam1 fence 5001) noValues) is numbers (replicate 8 6))
+    ∷ (numbers (results fence (byParam1 fence 5002) noValues) is numbers (replicate 8 6))
+    -- the jump runs once: its count goes to 1, and then it is passed over; so it does with 1, twice with 2, never with 0, for ever with -1
+    ∷ (commands (ordered (withFlight (looping 0x7f800001) 1) (replicate 4 finishes)) is commands (fly 0 ∷ fly 0 ∷ fly 2 ∷ finished ∷ []))
+    ∷ (commands (ordered (withFlight (looping 0xffc00000) 1) (replicate 4 finishes)) is commands (fly 0 ∷ fly 0 ∷ fly 2 ∷ finished ∷ []))
+    ∷ (commands (ordered (withFlight (looping f1) 1) (replicate 4 finishes)) is commands (fly 0 ∷ fly 0 ∷ fly 2 ∷ finished ∷ []))
+    ∷ (commands (ordered (withFlight (looping f2) 1) (replicate 4 finishes)) is commands (fly 0 ∷ fly 0 ∷ fly 0 ∷ fly 2 ∷ []))
+    ∷ (commands (ordered (withFlight (looping 0) 1) (replicate 3 finishes)) is commands (fly 0 ∷ fly 2 ∷ finished ∷ []))
+    ∷ (commands (ordered (withFlight (looping fMinusOne) 1) (replicate 4 finishes)) is commands (replicate 4 (fly 0)))
+    ∷ (numbers (run (withFlight (looping fNaN) 1) (finishes ∷ []) .shown .counts) is numbers (replicate 15 0))
+    ∷ (numbers (run (withFlight (looping fNaN) 1) (replicate 2 finishes) .shown .counts) is numbers (1 ∷ replicate 14 0))
+    ∷ (numbers (run (withFlight (looping fNaN) 1) (replicate 4 finishes) .shown .counts) is numbers (1 ∷ replicate 14 0))
+    -- an upload with it completes, and the item comes back as it was sent; an infinity as a repeat, which a host wrote, is Stuck
+    ∷ (answer (after fresh (uploads flight 3 (waypoint 0 ∷ jumpTo 1 0 0xff800001 ∷ [])) (sendsItem tablet 0 (waypoint 2))) is answer (says (ack tablet 0 0 1)))
+    ∷ (answer (after fresh (uploads flight 3 (looping 0xff800001)) (asksForItem tablet flight 1)) is answer (says (itemInt tablet 0 (jumpTo 1 0 0xff800001))))
+    ∷ (commands (ordered (withFlight (looping 0x7f800000) 1) (replicate 2 finishes)) is commands (fly 0 ∷ stuck ∷ []))
     -- outcome 15: a plan's length
     ∷ (answer (listed (lengths 256 64 32)) is answer (says (count tablet 256 0 1)))
     ∷ (answer (listed (lengths 257 0 0)) is answer (refused 15))

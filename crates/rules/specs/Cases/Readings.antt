@@ -161,7 +161,8 @@ readings =
     ∷ (answer (after flying (uploads flight 4 []) (sendsItem tablet 0 (jumpTo 0 fMinusOne 0))) is answer (verdict 6 0))
     -- a sixteenth jump gets 4, last in the order
     ∷ (answer (after jumping [] (sendsItem tablet 0 (jumpTo 15 0 0))) is answer (verdict 4 0))
-    ∷ (answer (after jumping [] (sendsItem tablet 0 (jumpTo 15 0 fNaN))) is answer (verdict 7 0))
+    ∷ (answer (after jumping [] (sendsItem tablet 0 (jumpTo 15 0 0x3f000000))) is answer (verdict 7 0))
+    ∷ (answer (after jumping [] (sendsItem tablet 0 (jumpTo 15 0 fNaN))) is answer (verdict 4 0))
     ∷ (answer (after jumping [] (sendsItem tablet 0 (waypoint 15))) is answer (says (requestInt tablet 16 0)))
     -- REQUEST_LIST and REQUEST_INT show the plan and never a running upload; the current field goes with the current item, begun or not
     ∷ (answer (after fencing [] (asksForList tablet fence)) is answer (says (count tablet 0 1 0)))

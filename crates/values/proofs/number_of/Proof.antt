@@ -1,7 +1,9 @@
--- By the variant that `whole_of` returned: an integer is the rules' own, and no reading leaves no number of 31 bits.
+-- By the variant that `whole_of` returned, which is the rules' own reading.
+use mathlib.Core.Path.{sym, ap, _∙_}
 use mathlib.Core.Bool.{true, false}
-use Rattle.rules.specs.Values.{wholeOf}
-use Rattle.values.specs.Integers.{cast-defined, number-is, no-number}
+use Rattle.rules.specs.Values.{wholeOf, wholeNumber}
+use Rattle.values.specs.Integers.{cast-defined, number-is}
+use Rattle.values.specs.Wholes.{meant}
 use borrow.Author.Needs.{needs}
 use Rattle.values.proofs.number_of.Statement.{statement}
 use Rattle.values.proofs.number_of.Tie as tie
@@ -18,6 +20,9 @@ cast-result c = cast-defined (c .before .before .n .given .0 .0) (search needs) 
 enum-told : tie.Need-enum-told
 enum-told c = search needs
 
+enum-told-2 : tie.Need-enum-told-2
+enum-told-2 c = search needs
+
 returns : tie.Need-returns
 returns c =
     let known = c .before .before in
@@ -33,9 +38,14 @@ returns-2 c =
     false (c .if1 .left)
 
 returns-3 : tie.Need-returns-3
-returns-3 c = no-number (c .before .before .whole-of .result) (c .enum-told .given .1) (wholeOf (c .before .before .before .args .x)) (c .before .before .whole-of .ensures)
+unfolding wholeNumber
+returns-3 c = ap wholeNumber (sym (ap meant (c .enum-told .given .1)) ∙ c .before .before .whole-of .ensures)
+
+returns-4 : tie.Need-returns-4
+unfolding wholeNumber
+returns-4 c = ap wholeNumber (sym (ap meant (c .enum-told2 .given .1)) ∙ c .before .before .whole-of .ensures)
 
 pub number-of-spec : {M : Type 1} → statement M
 number-of-spec =
     tie.close
-    (tie.spec whole-of-requires enum-known-n cast-result enum-told returns returns-2 returns-3)
+    (tie.spec whole-of-requires enum-known-n cast-result enum-told enum-told-2 returns returns-2 returns-3 returns-4)

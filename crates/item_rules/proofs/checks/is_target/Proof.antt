@@ -1,6 +1,9 @@
--- By the variant that `whole_of` returned: an integer is the rules' own, and no reading means no target, since a count is below 2 ^ 31.
+-- By the variant that `whole_of` returned, which is the rules' own reading. A count is below 2 ^ 31, so it is itself as an i32.
+use mathlib.Core.Path.{sym, ap, _∙_}
 use Rattle.rules.specs.Values.{wholeOf}
-use Rattle.values.specs.Integers.{target-is, not-target}
+use Rattle.rules.specs.Items.{targetIn}
+use Rattle.values.specs.Wholes.{meant}
+use Rattle.values.specs.Integers.{target-is}
 use native.Mathlib.Omega.{arith}
 use borrow.Author.Needs.{needs}
 use Rattle.item_rules.proofs.checks.is_target.Statement.{statement}
@@ -21,6 +24,9 @@ cast-result-2 c = search needs
 enum-told : tie.Need-enum-told
 enum-told c = search needs
 
+enum-told-2 : tie.Need-enum-told-2
+enum-told-2 c = search needs
+
 returns : tie.Need-returns
 returns c =
     let start = c .before .before .before .before in
@@ -29,12 +35,18 @@ returns c =
     (start .args .count) (start .args .own) (omega arith)
 
 returns-2 : tie.Need-returns-2
+unfolding targetIn
 returns-2 c =
-    let start = c .before .before .before in
-    let read = c .before .before .whole-of in
-    not-target (read .result) (c .enum-told .given .1) (wholeOf (start .args .x)) (start .args .count) (start .args .own) (read .ensures) (omega arith)
+    let start = c .before .before in
+    ap (targetIn (start .before .args .count) (start .before .args .own)) (sym (ap meant (c .enum-told .given .1)) ∙ start .whole-of .ensures)
+
+returns-3 : tie.Need-returns-3
+unfolding targetIn
+returns-3 c =
+    let start = c .before .before in
+    ap (targetIn (start .before .args .count) (start .before .args .own)) (sym (ap meant (c .enum-told2 .given .1)) ∙ start .whole-of .ensures)
 
 pub is-target-spec : {M : Type 1} → statement M
 is-target-spec =
     tie.close
-    (tie.spec whole-of-requires enum-known-n cast-result cast-result-2 enum-told returns returns-2)
+    (tie.spec whole-of-requires enum-known-n cast-result cast-result-2 enum-told enum-told-2 returns returns-2 returns-3)

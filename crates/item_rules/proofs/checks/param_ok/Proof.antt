@@ -1,6 +1,7 @@
 -- Each arm's variant is known, and the rule that it stands for is what the function called there ensures.
 use Prim.Native.Nat.{ℕ}
-use mathlib.Core.Path.{_≡_, sym, ap, _∙_}
+use mathlib.Core.Path.{_≡_, sym, ap, ap₂, _∙_}
+use mathlib.Core.Bool.{_||_}
 use lib.IntN.{ℤ}
 use lib.Ieee.{Float}
 use mir.Syntax.{w32}
@@ -54,6 +55,15 @@ enum-known-rule-2 c = search needs
 whole-within-requires : tie.Need-whole-within-requires
 whole-within-requires c κs = search needs
 
+enum-known-rule-3 : tie.Need-enum-known-rule-3
+enum-known-rule-3 c = search needs
+
+is-none-requires : tie.Need-is-none-requires
+is-none-requires c κs = search needs
+
+whole-within-requires-2 : tie.Need-whole-within-requires-2
+whole-within-requires-2 c κs = search needs
+
 enum-told-5 : tie.Need-enum-told-5
 enum-told-5 c = search needs
 
@@ -97,11 +107,20 @@ returns-6 c =
     let read = c .before .before .rule2 .given in
     c .whole-within .ensures
     ∙ as-passed (read .0 .0) (read .0 .1 .0) (search needs) (search needs) (wholeOf (a .x))
-    ∙ sym (by-rule (a .count) (a .own) (a .x) (c .before .before .rule2 .given .1))
+    ∙ sym (by-rule (a .count) (a .own) (a .x) (read .1))
 
 returns-7 : tie.Need-returns-7
 unfolding paramOk
 returns-7 c =
+    let a = c .before .before .before .before .before .args in
+    let read = c .before .before .before .rule3 .given in
+    ap₂ _||_ (c .before .is-none .ensures)
+    (c .whole-within2 .ensures ∙ as-passed (read .0 .0) (read .0 .1 .0) (search needs) (search needs) (wholeOf (a .x)))
+    ∙ sym (by-rule (a .count) (a .own) (a .x) (read .1))
+
+returns-8 : tie.Need-returns-8
+unfolding paramOk
+returns-8 c =
     let a = c .before .before .before .args in
     c .is-target .ensures ∙ sym (by-rule (a .count) (a .own) (a .x) (c .before .enum-told5 .given .1))
 
@@ -120,6 +139,9 @@ param-ok-spec =
     zero-to-requires
     enum-known-rule-2
     whole-within-requires
+    enum-known-rule-3
+    is-none-requires
+    whole-within-requires-2
     enum-told-5
     is-target-requires
     returns
@@ -128,4 +150,5 @@ param-ok-spec =
     returns-4
     returns-5
     returns-6
-    returns-7)
+    returns-7
+    returns-8)

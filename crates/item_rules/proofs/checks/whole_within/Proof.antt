@@ -1,6 +1,8 @@
--- By the variant that `whole_of` returned: an integer is the rules' own, and where there is none, no whole number lies between two i32.
-use Rattle.rules.specs.Values.{wholeOf}
-use Rattle.values.specs.Integers.{within-is, not-within}
+-- By the variant that `whole_of` returned, which is the rules' own reading.
+use mathlib.Core.Path.{sym, ap, _∙_}
+use Rattle.rules.specs.Values.{wholeOf, wholeFrom}
+use Rattle.values.specs.Wholes.{meant}
+use Rattle.values.specs.Integers.{within-is}
 use borrow.Author.Needs.{needs}
 use Rattle.item_rules.proofs.checks.whole_within.Statement.{statement}
 use Rattle.item_rules.proofs.checks.whole_within.Tie as tie
@@ -14,6 +16,9 @@ enum-known-n c = search needs
 enum-told : tie.Need-enum-told
 enum-told c = search needs
 
+enum-told-2 : tie.Need-enum-told-2
+enum-told-2 c = search needs
+
 returns : tie.Need-returns
 returns c =
     let start = c .before .before .before .before in
@@ -22,11 +27,16 @@ returns c =
     (start .args .low) (start .args .high) (start .fits .low) (start .fits .high)
 
 returns-2 : tie.Need-returns-2
+unfolding wholeFrom
 returns-2 c =
-    let start = c .before .before .before in
-    let read = c .before .before .whole-of in
-    not-within (read .result) (c .enum-told .given .1) (wholeOf (start .args .x)) (start .args .low) (start .args .high) (read .ensures)
-    (start .fits .low) (start .fits .high)
+    let start = c .before .before in
+    ap (wholeFrom (start .before .args .low) (start .before .args .high)) (sym (ap meant (c .enum-told .given .1)) ∙ start .whole-of .ensures)
+
+returns-3 : tie.Need-returns-3
+unfolding wholeFrom
+returns-3 c =
+    let start = c .before .before in
+    ap (wholeFrom (start .before .args .low) (start .before .args .high)) (sym (ap meant (c .enum-told2 .given .1)) ∙ start .whole-of .ensures)
 
 pub whole-within-spec : {M : Type 1} → statement M
-whole-within-spec = tie.close (tie.spec whole-of-requires enum-known-n enum-told returns returns-2)
+whole-within-spec = tie.close (tie.spec whole-of-requires enum-known-n enum-told enum-told-2 returns returns-2 returns-3)
