@@ -126,9 +126,9 @@ fn check_params(item: &Item, rule: ParamRule, standing: &Standing, fault: Fault)
         ParamRule::Free => (true, true),
         ParamRule::Amount => (finite(first) && at_least_zero(first, fault), true),
         ParamRule::Heading => (heading(first, fault), true),
-        ParamRule::Jump => (jump_target(first, standing, fault), whole_within(second, -1, 32767)),
+        ParamRule::Jump => (jump_target(first, standing, fault), repeat_fits(second, fault)),
         ParamRule::Speed => (true, finite(second)),
-        ParamRule::Servo => (whole_within(first, 1, 16), whole_within(second, 500, 2500)),
+        ParamRule::Servo => (whole_within(first, 1, 16), pulse_fits(second, fault)),
         ParamRule::Vertices => (whole_within(first, 3, 64), true),
         ParamRule::Radius => (finite(first) && f32::from_bits(first) > 0.0, true),
     };
@@ -144,11 +144,34 @@ fn check_position(item: &Item, fault: Fault) -> Result<(), u8> {
 }
 
 fn jump_target(bits: u32, standing: &Standing, fault: Fault) -> bool {
+    if fault.is(Fault::NanTarget) && read(bits) == Reading::NoValue {
+        return true;
+    }
     let itself_fits = fault.is(Fault::JumpToItself);
     whole(bits).is_some_and(|target| {
         (0..i64::from(standing.count)).contains(&target)
             && (itself_fits || target != i64::from(standing.number))
     })
+}
+
+/// Whole, -1 to 32767, or no value (request M-105).
+fn repeat_fits(bits: u32, fault: Fault) -> bool {
+    let refused = match fault {
+        Fault::NanRepeatRefused => true,
+        Fault::SignallingRefused => bits & QUIET == 0,
+        Fault::NegativeNanRefused => bits >> 31 == 1,
+        _ => false,
+    };
+    match read(bits) {
+        Reading::NoValue => !refused,
+        Reading::Whole(repeat) => (-1..=32767).contains(&repeat),
+        Reading::NotWhole => fault.is(Fault::InfiniteRepeat) && !finite(bits),
+    }
+}
+
+fn pulse_fits(bits: u32, fault: Fault) -> bool {
+    let taken = fault.is(Fault::NanPulse) && read(bits) == Reading::NoValue;
+    taken || whole_within(bits, 500, 2500)
 }
 
 fn heading(bits: u32, fault: Fault) -> bool {
@@ -174,30 +197,52 @@ fn whole_within(bits: u32, least: i64, most: i64) -> bool {
     whole(bits).is_some_and(|value| (least..=most).contains(&value))
 }
 
-/// The whole number that a 32-bit float is exactly, if it is one. Numbers of
-/// 2^62 and more, either way, are given as 2^62, beyond every limit here.
-pub fn whole(bits: u32) -> Option<i64> {
-    let exponent = ((bits >> 23) & 0xFF) as i32 - 127;
+/// What a param says as a whole number (request M-105).
+#[derive(Clone, Copy, Debug, PartialEq, Eq)]
+pub enum Reading {
+    Whole(i32),
+    /// A NaN, whatever its pattern.
+    NoValue,
+    /// A fraction, an infinity, or a number beyond 32 signed bits.
+    NotWhole,
+}
+
+/// The bit that tells a quiet NaN from a signalling one.
+const QUIET: u32 = 1 << 22;
+
+/// Reads a 32-bit float exactly.
+pub fn read(bits: u32) -> Reading {
     let fraction = i64::from(bits & 0x7F_FFFF);
-    if bits & 0x7FFF_FFFF == 0 {
-        return Some(0);
+    if !finite(bits) {
+        return if fraction == 0 { Reading::NotWhole } else { Reading::NoValue };
     }
-    if !finite(bits) || exponent < 0 {
-        return None;
+    if bits & 0x7FFF_FFFF == 0 {
+        return Reading::Whole(0);
+    }
+    let exponent = ((bits >> 23) & 0xFF) as i32 - 127;
+    if !(0..=31).contains(&exponent) {
+        return Reading::NotWhole;
     }
     let significand = fraction | (1 << 23);
-    let size = if exponent >= 62 {
-        1 << 62
-    } else if exponent >= 23 {
+    let size = if exponent >= 23 {
         significand << (exponent - 23)
     } else {
         let below_one = (1 << (23 - exponent)) - 1;
         if significand & below_one != 0 {
-            return None;
+            return Reading::NotWhole;
         }
         significand >> (23 - exponent)
     };
-    Some(if bits >> 31 == 1 { -size } else { size })
+    let value = if bits >> 31 == 1 { -size } else { size };
+    i32::try_from(value).map_or(Reading::NotWhole, Reading::Whole)
+}
+
+/// The whole number that a param is, if it is one.
+pub fn whole(bits: u32) -> Option<i64> {
+    match read(bits) {
+        Reading::Whole(value) => Some(i64::from(value)),
+        Reading::NoValue | Reading::NotWhole => None,
+    }
 }
 
 #[cfg(test)]
@@ -220,20 +265,35 @@ mod tests {
         Item { params: [first.to_bits(), second.to_bits(), 0, 0], ..item(command) }
     }
 
+    /// The first and last patterns of quiet and of signalling NaNs, of either sign.
+    const NANS: [u32; 8] = [
+        0x7FC0_0000,
+        0x7FFF_FFFF,
+        0x7F80_0001,
+        0x7FBF_FFFF,
+        0xFFC0_0000,
+        0xFFFF_FFFF,
+        0xFF80_0001,
+        0xFFBF_FFFF,
+    ];
+
     #[test]
-    fn whole_numbers_are_exact() {
-        assert_eq!(whole(0), Some(0));
-        assert_eq!(whole(0x8000_0000), Some(0));
-        assert_eq!(whole(1), None);
-        assert_eq!(whole(0x0080_0000), None);
-        for value in [1i64, -1, 3, 64, 500, 2500, 32767, -32768, 8388607, 16777216, 1 << 40] {
-            assert_eq!(whole((value as f32).to_bits()), Some(value));
+    fn readings_are_exact() {
+        assert_eq!(read(0), Reading::Whole(0));
+        assert_eq!(read(0x8000_0000), Reading::Whole(0));
+        for value in [1i32, -1, 3, 64, 500, 2500, 32767, -32768, 8388607, 1 << 30, i32::MIN] {
+            assert_eq!(read((value as f32).to_bits()), Reading::Whole(value));
         }
-        for value in [0.5f32, 1.5, -0.25, 8388607.5, 2.9999998, f32::NAN, f32::INFINITY] {
-            assert_eq!(whole(value.to_bits()), None);
+        assert_eq!(read(0x4EFF_FFFF), Reading::Whole(2147483520));
+        for value in [0.5f32, 1.5, -0.25, 8388607.5, 2.9999998, f32::INFINITY, f32::NEG_INFINITY] {
+            assert_eq!(read(value.to_bits()), Reading::NotWhole);
         }
-        assert_eq!(whole(f32::MAX.to_bits()), Some(1 << 62));
-        assert_eq!(whole(f32::MIN.to_bits()), Some(-(1 << 62)));
+        for bits in [1, 0x0080_0000, 0x4F00_0000, 0xCF00_0001, 0x7F7F_FFFF, 0xFF7F_FFFF] {
+            assert_eq!(read(bits), Reading::NotWhole);
+        }
+        for bits in NANS {
+            assert_eq!(read(bits), Reading::NoValue);
+        }
     }
 
     #[test]
@@ -306,12 +366,18 @@ mod tests {
         for bad in [1.0, 4.0, -1.0, 0.5, f32::NAN, f32::INFINITY] {
             assert_eq!(jump(bad, f32::NAN), 6);
         }
-        for bad in [-2.0, 32768.0, 0.5, f32::NAN] {
+        for bad in [-2.0, 32768.0, 0.5, f32::INFINITY, 2147483648.0, -2147483648.0] {
             assert_eq!(jump(0.0, bad), 7);
+        }
+        for bits in NANS {
+            assert_eq!(jump(0.0, f32::from_bits(bits)), 0);
+            assert_eq!(jump(f32::from_bits(bits), 1.0), 6);
         }
         let sixteenth = Standing { jumps_before: 15, ..standing(FLIGHT) };
         let good = with_params(177, 0.0, 0.0);
         assert_eq!(judge(&good, &sixteenth, Fault::None), Err(4));
+        let without = with_params(177, 0.0, f32::NAN);
+        assert_eq!(judge(&without, &sixteenth, Fault::None), Err(4));
         let bad = with_params(177, 1.0, 0.0);
         assert_eq!(judge(&bad, &sixteenth, Fault::None), Err(6));
         assert_eq!(judge(&item(16), &sixteenth, Fault::None), Ok(()));
@@ -322,10 +388,10 @@ mod tests {
         let servo = |first, second| verdict(&with_params(183, first, second), FLIGHT);
         assert_eq!(servo(1.0, 500.0), 0);
         assert_eq!(servo(16.0, 2500.0), 0);
-        for bad in [0.0, 17.0, 1.5] {
+        for bad in [0.0, 17.0, 1.5, f32::NAN] {
             assert_eq!(servo(bad, 0.0), 6);
         }
-        for bad in [499.0, 2501.0, 1000.5] {
+        for bad in [499.0, 2501.0, 1000.5, f32::NAN] {
             assert_eq!(servo(1.0, bad), 7);
         }
         for command in [5001, 5002] {

@@ -1,7 +1,7 @@
 //! Choosing the next command of the flight plan, with jumps.
 
 use crate::fault::Fault;
-use crate::items::{judge, whole, Standing, DO_JUMP};
+use crate::items::{judge, read, whole, Reading, Standing, DO_JUMP};
 use crate::layout::Item;
 use crate::limits::*;
 use crate::state::State;
@@ -43,7 +43,7 @@ pub fn next_command(state: &mut State, store: &[u8], fault: Fault) -> Command {
             state.jump_counts = jump_counts;
             return command_of(&item, at);
         }
-        let (target, repeat) = jump_of(&item);
+        let (target, repeat) = jump_of(&item, fault);
         let runs = jump_counts.get_mut(jumps_before);
         let Some(runs) = runs else { return Command::Stuck };
         if repeat != -1 && i64::from(*runs) >= repeat {
@@ -71,10 +71,20 @@ fn breaks_rules(item: &Item, standing: &Standing, fault: Fault) -> bool {
     !trusted && judge(item, standing, judging).is_err()
 }
 
-/// Target and repeat of a valid jump.
-fn jump_of(item: &Item) -> (u16, i64) {
+/// Target and repeat of a valid jump; a repeat without a value is 1 (request M-105).
+fn jump_of(item: &Item, fault: Fault) -> (u16, i64) {
     let target = whole(item.params[0]).unwrap_or(0) as u16;
-    let repeat = whole(item.params[1]).unwrap_or(0);
+    let without = match fault {
+        Fault::NanRepeatZero => 0,
+        Fault::NanRepeatForever => -1,
+        Fault::NanRepeatTwice => 2,
+        _ => 1,
+    };
+    let repeat = match read(item.params[1]) {
+        Reading::Whole(repeat) => i64::from(repeat),
+        Reading::NoValue => without,
+        Reading::NotWhole => 0,
+    };
     (target, repeat)
 }
 
@@ -138,6 +148,21 @@ mod tests {
             assert_eq!(state.jump_counts[1], counts);
             assert_eq!(state.begun, answer != Command::Stuck);
         }
+    }
+
+    #[test]
+    fn a_repeat_without_a_value_is_one() {
+        for bits in [0x7FC0_0000, 0x7F80_0001, 0xFFC0_0000, 0xFF80_0001] {
+            let mut jump = pair(177, 0.0, 0.0);
+            jump.params[1] = bits;
+            let (mut state, store) = planned(&[nav(16), jump, nav(21)]);
+            let mut next = || next_command(&mut state, &store, Fault::None);
+            assert_eq!([next(), next(), next()], [0, 0, 2].map(Command::Fly));
+            assert_eq!(next(), Command::Finished);
+            assert_eq!(state.jump_counts[0], 1);
+        }
+        let infinite = pair(177, 0.0, f32::INFINITY);
+        assert_eq!(answers(&[nav(16), infinite], 2), [Command::Fly(0), Command::Stuck]);
     }
 
     #[test]

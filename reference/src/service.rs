@@ -4,7 +4,7 @@ use std::ops::Range;
 
 use crate::fault::{kind_from_last_byte, Fault};
 use crate::fence::fence_fits;
-use crate::items::{judge, result, Standing, DO_JUMP};
+use crate::items::{judge, read, result, Reading, Standing, DO_JUMP};
 use crate::layout::{Address, Item, Message, READ_IDS, TEXT_BYTES};
 use crate::limits::*;
 use crate::search::{next_command, Command};
@@ -296,6 +296,10 @@ impl Service {
         }
         if !self.fault.is(Fault::CurrentKept) {
             item.current = 0;
+        }
+        let without_repeat = item.command == DO_JUMP && read(item.params[1]) == Reading::NoValue;
+        if without_repeat && self.fault.is(Fault::NanStoredAsOne) {
+            item.params[1] = 1.0f32.to_bits();
         }
         item
     }

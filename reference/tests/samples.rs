@@ -16,6 +16,11 @@ fn m101() {
     prints(include_bytes!("samples/m101.bin"), include_str!("samples/m101.exp"));
 }
 
+#[test]
+fn m105() {
+    prints(include_bytes!("samples/m105.bin"), include_str!("samples/m105.exp"));
+}
+
 fn prints(mut script: &[u8], expected: &str) {
     let mut lines = Vec::new();
     play(&mut script, &mut lines, Fault::None).unwrap();

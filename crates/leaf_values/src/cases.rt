@@ -74,10 +74,11 @@ fn length_case(i: usize) -> Case {
     }
 }
 
-pub const COUNT: usize = 32;
+pub const COUNT: usize = 38;
 
 // Payloads of every length; from 16 on MAVLink's own test values: the messages that are read, with their bytes where they are also written, then those that
-// are only written; from 26 on whole numbers: 8388607 and 8388607.5; the last below 2 ^ 31, 2 ^ 31, -2 ^ 31, and the first below it.
+// are only written; from 26 on whole numbers: 8388607 and 8388607.5; the last below 2 ^ 31, 2 ^ 31, -2 ^ 31, and the first below it; NaN, quiet and signalling,
+// of either sign; the infinities.
 pub fn case_of(i: usize) -> Case {
     match i {
         16 => message(wire::SET_CURRENT_ID, 300, 4, 0, 5),
@@ -96,6 +97,12 @@ pub fn case_of(i: usize) -> Case {
         29 => whole(0x4f00_0000, 2147483647),
         30 => whole(0xcf00_0000, -2147483648),
         31 => whole(0xcf00_0001, -2147483648),
+        32 => whole(0x7fc0_0000, 0),
+        33 => whole(0x7f80_0001, 0),
+        34 => whole(0xffc0_0000, 0),
+        35 => whole(0xff80_0001, 0),
+        36 => whole(0x7f80_0000, 0),
+        37 => whole(0xff80_0000, 0),
         _ => length_case(i),
     }
 }

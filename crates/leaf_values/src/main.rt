@@ -1,6 +1,6 @@
 // What no call of the service shows, as lines that are compared with the file `stdout`: the fields of MAVLink's own test values as they are read,
-// their bytes as they are written, payloads of every length read and written again, buffers that are too short, and whole numbers beyond
-// every rule's range.
+// their bytes as they are written, payloads of every length read and written again, buffers that are too short, whole numbers beyond
+// every rule's range, and patterns without a value.
 mod cases;
 mod lengths;
 mod messages;

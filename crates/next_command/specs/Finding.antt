@@ -5,11 +5,9 @@ use mathlib.Core.List.{List}
 use mathlib.Core.Bool.{Bool, cond}
 use native.Mathlib.Omega.{arith}
 use lib.ListN.{getD, set}
-use lib.IntN.{pos, negsuc}
+use lib.IntN.{ℤ, pos, negsuc}
 use Rattle.rules.specs.Payload.{Bytes}
 use Rattle.rules.specs.Messages.{Item}
-use Rattle.rules.specs.Values as values
-use Rattle.rules.specs.Values.{integer, notWhole}
 use Rattle.rules.specs.NextCommand.{commandOf, targetOf, repeatOf, runsAfter, ends, stands, follows, searchFrom, settle, countsAfter, nowhere, found, stuck}
 use Rattle.rules.specs.NextCommand as rules
 use Rattle.plan_search.specs.declared.Met.{Met}
@@ -32,11 +30,10 @@ settledAs (Follows j target counted) counts = nowhere stuck
 abbrev pub countedAs : List ℕ → (j : ℕ) (counted : Bool) → List ℕ
 countedAs counts j counted = set counts j (cond counted (getD counts j 0 + 1) (getD counts j 0))
 
-runs-are : (w : values.Whole) (c : ℕ) → runsAfter w c ≡ cond (isCounted w) (c + 1) c
+runs-are : (r : ℤ) (c : ℕ) → runsAfter r c ≡ cond (isCounted r) (c + 1) c
 unfolding runsAfter isCounted
-runs-are (integer (pos r)) c = refl
-runs-are (integer (negsuc r)) c = refl
-runs-are notWhole c = refl
+runs-are (pos r) c = refl
+runs-are (negsuc r) c = refl
 
 -- the end of a search
 pub settles-last : (items : List Bytes) (counts : List ℕ) (n : ℕ) (met : Met) → met ≡ metFor (searchFrom items counts n)

@@ -1,5 +1,4 @@
 -- What the contracts of this crate cite besides the rules.
 pub mod PlanItems
 pub mod Orders
-pub mod Valid
 pub mod Meeting

@@ -5,50 +5,44 @@ use mathlib.Core.Path.{_≡_, refl, sym, subst}
 use mathlib.Core.List.{List, [], _∷_}
 use mathlib.Core.Bool.{Bool, true, false, true≢false, not, cond}
 use lib.ListN.{getD}
-use lib.IntN.{pos, negsuc}
-use lib.Dec.{eqb, leb}
+use lib.IntN.{ℤ, pos, negsuc}
+use lib.Dec.{eqb}
 use borrow.Author.Tests.{eqb-true, leb-true, leb-false, not-false}
-use Rattle.rules.specs.Limits.{flight, maxRuns, maxJumps, forever, accepted}
+use Rattle.rules.specs.Limits.{flight, maxRuns, maxJumps, accepted}
 use Rattle.rules.specs.Payload.{Bytes}
 use Rattle.rules.specs.Messages.{Item, itemIn}
-use Rattle.rules.specs.Values as values
-use Rattle.rules.specs.Values.{integer, notWhole, wholeOf, wholeFrom, float}
+use Rattle.rules.specs.Values.{wholeOf, float}
 use Rattle.rules.specs.Items.{isJump, fault}
 use Rattle.rules.specs.NextCommand.{commandOf, targetOf, repeatOf, passedOver, ends, stands, follows, meets}
 use Rattle.rules.specs.NextCommand as rules
-use Rattle.values.specs.declared.Whole.{Whole}
-use Rattle.values.specs.declared.Whole.the-variants.{Integer, NotWhole}
+use Rattle.rule_laws.specs.Valid.{Repeats, valid-jump, target-below}
 use Rattle.command.specs.declared.Command.the-variants.{Stuck}
 use Rattle.plan_search.specs.declared.Met.{Met}
 use Rattle.plan_search.specs.declared.Met.the-variants.{Ends, Stands, Follows}
 use Rattle.plan_search.specs.declared.Look.{Look}
 use Rattle.plan_search.specs.declared.Look.the-variants.{Meets, PassedOver}
 use Rattle.plan_search.specs.Orders.{commandFor}
-use Rattle.plan_search.specs.Valid.{valid-jump, target-below}
 
 -- "c goes up by one unless r is -1"
-unfoldable pub isCounted : values.Whole → Bool
-isCounted (integer (pos r)) = true
-isCounted (integer (negsuc r)) = false
-isCounted notWhole = false
+unfoldable pub isCounted : ℤ → Bool
+isCounted (pos r) = true
+isCounted (negsuc r) = false
 
 abbrev pub metFor : rules.Met → Met
 metFor (ends c) = Ends (commandFor c)
 metFor (stands n item) = Stands n (commandFor (commandOf n item))
 metFor (follows j item) = Follows j (targetOf item) (isCounted (repeatOf item))
 
+-- what jump number j is to a search, with a repeat and a target, after some runs
+unfoldable pub jumpAs : ℤ → (target j runs : ℕ) → Look
+jumpAs repeat target j runs = cond (passedOver repeat runs) PassedOver (Meets (Follows j target (isCounted repeat)))
+
 -- what an item is to a search
 unfoldable pub lookAs : (size : ℕ) (counts : List ℕ) (n j : ℕ) → Item → Look
 lookAs size counts n j item =
     cond (not (eqb (fault flight size n j item) accepted)) (Meets (Ends Stuck))
     (cond (not (isJump item)) (Meets (Stands n (commandFor (commandOf n item))))
-    (cond (passedOver (repeatOf item) (getD counts j 0)) PassedOver (Meets (Follows j (targetOf item) (isCounted (repeatOf item))))))
-
--- a jump by the code's reading of its repeat
-unfoldable pub jumpAs : Whole → (target j runs : ℕ) → Look
-jumpAs (Integer (pos r)) target j runs = cond (leb r runs) PassedOver (Meets (Follows j target true))
-jumpAs (Integer (negsuc r)) target j runs = Meets (Follows j target false)
-jumpAs NotWhole target j runs = Meets (Follows j target false)
+    (jumpAs (repeatOf item) (targetOf item) j (getD counts j 0)))
 
 abbrev pub onwards : Look → Met → Met
 onwards (Meets met) rest = met
@@ -56,7 +50,7 @@ onwards PassedOver rest = rest
 
 pub meets-one : (size : ℕ) (counts : List ℕ) (b : Bytes) (rest : List Bytes) (n j : ℕ)
     → metFor (meets size counts (b ∷ rest) n j) ≡ onwards (lookAs size counts n j (itemIn b)) (metFor (meets size counts rest (suc n) (suc j)))
-unfolding meets lookAs
+unfolding meets lookAs jumpAs
 meets-one size counts b rest n j =
     go (not (eqb (fault flight size n j (itemIn b)) accepted)) (not (isJump (itemIn b))) (passedOver (repeatOf (itemIn b)) (getD counts j 0))
   where
@@ -71,12 +65,10 @@ meets-one size counts b rest n j =
     go false false false = refl
 
 -- a run that is counted is one of at most 32767
-counted-below : (w : values.Whole) (c : ℕ) → wholeFrom forever (pos maxRuns) w ≡ true → passedOver w c ≡ false → isCounted w ≡ true → c < maxRuns
-unfolding wholeFrom passedOver isCounted
-counted-below (integer (pos r)) c valid over counted =
-    omega (arith, leb-true r maxRuns valid, leb-false r c over)
-counted-below (integer (negsuc r)) c valid over counted = absurd (true≢false (sym counted))
-counted-below notWhole c valid over counted = absurd (true≢false (sym counted))
+counted-below : (r : ℤ) (c : ℕ) → Repeats r → passedOver r c ≡ false → isCounted r ≡ true → c < maxRuns
+unfolding passedOver isCounted
+counted-below (pos r) c valid over counted = omega (arith, leb-true r maxRuns valid, leb-false r c over)
+counted-below (negsuc r) c valid over counted = absurd (true≢false (sym counted))
 
 -- a jump to follow is one of the plan's fifteen, has its target in the plan, and a run of it that is counted is one of at most 32767
 pub record Followed (size : ℕ) (counts : List ℕ) (j target : ℕ) (counted : Bool) : Type 0 where
@@ -126,8 +118,7 @@ unfolding lookAs
 over-room size counts n j i = go (eqb (fault flight size n j i) accepted) (isJump i) refl refl
   where
     go : (fine is : Bool) → eqb (fault flight size n j i) accepted ≡ fine → isJump i ≡ is
-        → cond (not fine) (Meets (Ends Stuck)) (cond (not is) (Meets (Stands n (commandFor (commandOf n i))))
-        (cond (passedOver (repeatOf i) (getD counts j 0)) PassedOver (Meets (Follows j (targetOf i) (isCounted (repeatOf i)))))) ≡ PassedOver
+        → cond (not fine) (Meets (Ends Stuck)) (cond (not is) (Meets (Stands n (commandFor (commandOf n i)))) (jumpAs (repeatOf i) (targetOf i) j (getD counts j 0))) ≡ PassedOver
         → j < maxJumps
     go false is ef ei h = absurd (let z : _≡_ {A = ℕ} 0 1 = cc in omega arith)
     go true false ef ei h = absurd (let z : _≡_ {A = ℕ} 0 1 = cc in omega arith)

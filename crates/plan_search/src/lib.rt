@@ -10,7 +10,6 @@ use limits::FLIGHT;
 use limits::JUMP_COUNTS;
 use limits::SET_SERVO;
 use limits::YAW;
-use values::Whole;
 ghost use mathlib.Core.Path.{_≡_};
 ghost use Prim.Native.Nat.{_≤_, _<_};
 ghost use lib.ListN.{length, drop};
@@ -20,7 +19,7 @@ ghost use Rattle.rules.specs.NextCommand.{commandOf, meets, searchFrom};
 ghost use Rattle.item.specs.Patterns.{itemFor, patterns};
 ghost use Rattle.places.specs.Places.{itemAt, itemsIn};
 ghost use Rattle.plan_search.specs.Orders.{commandFor};
-ghost use Rattle.plan_search.specs.Valid.{ServoFits};
+ghost use Rattle.rule_laws.specs.Valid.{ServoFits};
 ghost use Rattle.plan_search.specs.Meeting.{metFor, lookAs, jumpAs};
 
 // What a search meets first that is no jump to pass over.
@@ -57,21 +56,16 @@ fn command_of(n: u16, item: Item) -> Command
 }
 
 // Jump number j with a repeat and a target, after some runs. Only -1 is below 0: it is followed for ever, and not counted.
-fn jump_look(repeat: Whole, target: u16, j: u16, runs: u16) -> Look
+fn jump_look(repeat: i32, target: u16, j: u16, runs: u16) -> Look
     ensures { λ r. ⌜ r ≡ jumpAs repeat target j runs ⌝ }
 {
-    match repeat {
-        Whole::Integer(times) => {
-            if times < 0 {
-                return Look::Meets(Met::Follows(j, target, false));
-            }
-            if times <= runs as i32 {
-                return Look::PassedOver;
-            }
-            Look::Meets(Met::Follows(j, target, true))
-        }
-        Whole::NotWhole => Look::Meets(Met::Follows(j, target, false)),
+    if repeat < 0 {
+        return Look::Meets(Met::Follows(j, target, false));
     }
+    if repeat <= runs as i32 {
+        return Look::PassedOver;
+    }
+    Look::Meets(Met::Follows(j, target, true))
 }
 
 // Item n of a plan of len items, with j jumps before it.

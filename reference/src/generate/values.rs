@@ -19,7 +19,7 @@ const UNLISTED_COMMANDS: [u16; 18] =
 /// Bit patterns of floats that stand at some edge: zeros, subnormals, whole and
 /// not whole numbers, the table's limits on both sides, infinities and NaNs.
 #[rustfmt::skip]
-const EDGE_FLOATS: [u32; 64] = [
+const EDGE_FLOATS: [u32; 68] = [
     0x0000_0000, 0x8000_0000, 0x0000_0001, 0x8000_0001, 0x007F_FFFF, 0x807F_FFFF, 0x0080_0000,
     0x8080_0000, 0x3F00_0000, 0xBF00_0000, 0x3F7F_FFFF, 0x3F80_0000, 0xBF80_0000, 0x3F80_0001,
     0xBF80_0001, 0x3FC0_0000, 0x4000_0000, 0xC000_0000, 0x403F_FFFF, 0x4040_0000, 0x4040_0001,
@@ -29,7 +29,19 @@ const EDGE_FLOATS: [u32; 64] = [
     0x451C_4001, 0x451C_5000, 0x46FF_FE00, 0x46FF_FF00, 0x4700_0000, 0x4780_0000, 0x4B00_0000,
     0x4B80_0000, 0x4F00_0000, 0x4F80_0000, 0x5F00_0000, 0x5F80_0000, 0xDF00_0000, 0x7F7F_FFFF,
     0xFF7F_FFFF, 0x7F80_0000, 0xFF80_0000, 0x7FC0_0000, 0xFFC0_0000, 0x7F80_0001, 0xFFFF_FFFF,
+    0x7FFF_FFFF, 0xFF80_0001, 0x4EFF_FFFF, 0xCF00_0000, 0xCF00_0001,
+];
+
+/// NaNs, quiet and signalling, of either sign.
+const NO_VALUES: [u32; 8] = [
+    0x7FC0_0000,
     0x7FFF_FFFF,
+    0x7F80_0001,
+    0x7FBF_FFFF,
+    0xFFC0_0000,
+    0xFFFF_FFFF,
+    0xFF80_0001,
+    0xFFBF_FFFF,
 ];
 
 pub fn commands(kind: usize) -> &'static [u16] {
@@ -144,6 +156,7 @@ fn jump(random: &mut Random, number: u16, count: u16) -> Item {
     let repeat = match random.below(8) {
         0 => (-1.0f32).to_bits(),
         1 => random.pick(&[0, 1 << 31, bits(32767), bits(40)]),
+        2 => random.pick(&NO_VALUES),
         _ => bits(random.below(4)),
     };
     jump_to(random, number, target, repeat)
@@ -313,9 +326,13 @@ fn edge_param(random: &mut Random, item: &Item, count: u16, param: usize) -> u32
         let near = item.seq.wrapping_add(random.pick(&[0, 0, 1, u16::MAX]));
         return bits(usize::from(random.pick(&[near, count, count.saturating_sub(1)])));
     }
-    match !own.is_empty() && random.chance(3, 4) {
-        true => random.pick(own).to_bits(),
-        false => random.pick(&EDGE_FLOATS),
+    match own {
+        [] => random.pick(&EDGE_FLOATS),
+        _ => match random.below(8) {
+            0 => random.pick(&EDGE_FLOATS),
+            1 => random.pick(&NO_VALUES),
+            _ => random.pick(own).to_bits(),
+        },
     }
 }
 
@@ -368,8 +385,10 @@ fn rule_edges(command: u16, param: usize) -> &'static [f32] {
             32767.5,
             32768.0,
             65535.0,
+            2147483648.0,
+            -2147483648.0,
             f32::INFINITY,
-            f32::NAN,
+            f32::NEG_INFINITY,
         ],
         (178, 1) => &[
             0.0,

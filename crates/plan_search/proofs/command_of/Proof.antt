@@ -1,25 +1,18 @@
 -- Each arm's command number decides the rules' tests; the values are those of the patterns, and a servo's numbers have 16 bits.
-use Prim.Native.Nat.{ℕ, _<_}
+use Prim.Native.Nat.{ℕ}
 use native.Mathlib.Omega.{arith}
-use mathlib.Core.Path.{_≡_, ap, ap₂, _∙_}
-use borrow.Author.Tests.{lt-ltb, ne-eqb}
+use mathlib.Core.Path.{_≡_, ap, ap₂}
+use borrow.Author.Tests.{ne-eqb}
 use borrow.Author.Needs.{needs}
-use Rattle.rules.specs.Limits.{halfClock}
 use Rattle.rules.specs.Values.{float, wholeOf, wholeNumber}
 use Rattle.rules.specs.Items.{delay, distance, yaw, changeSpeed, setServo}
 use Rattle.rules.specs.NextCommand.{commandOf}
 use Rattle.item.specs.declared.Item.{Item}
 use Rattle.item.specs.Patterns.{itemFor, patterns}
-use Rattle.values.specs.Wholes.{number31}
 use Rattle.command.specs.declared.Command.the-variants.{Fly, Wait, Near, Turn, Speed, Servo}
 use Rattle.plan_search.specs.Orders.{commandFor}
-use Rattle.plan_search.specs.Valid.{ServoFits}
 use Rattle.plan_search.proofs.command_of.Statement.{statement}
 use Rattle.plan_search.proofs.command_of.Tie as tie
-
-small : (k : ℕ) → k < 65536 → number31 k ≡ k
-unfolding number31
-small k h = rw (lt-ltb k halfClock (omega arith))
 
 module _ (n : ℕ) (item : Item) (is : item ≡ itemFor (patterns item)) where
   one : item .param1 ≡ float (item .bits1)
@@ -49,38 +42,22 @@ module _ (n : ℕ) (item : Item) (is : item ≡ itemFor (patterns item)) where
   unfolding commandOf
   flies a b c d e = rw (ne-eqb _ _ a, ne-eqb _ _ b, ne-eqb _ _ c, ne-eqb _ _ d, ne-eqb _ _ e)
 
-  module _ (fit : ServoFits (patterns item)) (e : item .command ≡ setServo) (a : ℕ) (ea : a ≡ number31 (wholeNumber (wholeOf (float (patterns item .param1))))) where
-    channel : a ≡ wholeNumber (wholeOf (float (patterns item .param1)))
-    channel = ea ∙ small _ (fit .channel e)
-
-    module _ (b : ℕ) (eb : b ≡ number31 (wholeNumber (wholeOf (float (patterns item .param2))))) where
-      pulse : b ≡ wholeNumber (wholeOf (float (patterns item .param2)))
-      pulse = eb ∙ small _ (fit .pulse e)
-
-      servos : Servo n a b ≡ commandFor (commandOf n (patterns item))
-      unfolding commandOf
-      servos = rw e (ap₂ (Servo n) channel pulse)
+  servos : item .command ≡ setServo → (a b : ℕ) → a ≡ wholeNumber (wholeOf (float (patterns item .param1))) → b ≡ wholeNumber (wholeOf (float (patterns item .param2)))
+      → Servo n a b ≡ commandFor (commandOf n (patterns item))
+  unfolding commandOf
+  servos e a b ea eb = rw e (ap₂ (Servo n) ea eb)
 
 number1-requires : tie.Need-number1-requires
 number1-requires c κs = search needs
 
 cast-t6 : tie.Need-cast-t6
-cast-t6 c =
-    let a = c .before .before .args in
-    let pre = c .before .before .pre in
-    let e = c .before .match .keys5 in
-    omega (arith, channel (a .n) (a .item) (pre .0) (pre .1) e (c .number1 .result) (c .number1 .ensures), pre .1 .channel e)
+cast-t6 c = omega (arith, c .number1 .ensures, c .before .before .pre .1 .channel (c .before .match .keys5))
 
 number2-requires : tie.Need-number2-requires
 number2-requires c κs = search needs
 
 cast-t8 : tie.Need-cast-t8
-cast-t8 c =
-    let a = c .before .before .before .args in
-    let pre = c .before .before .before .pre in
-    let e = c .before .before .match .keys5 in
-    let first = c .before .number1 in
-    omega (arith, pulse (a .n) (a .item) (pre .0) (pre .1) e (first .result) (first .ensures) (c .number2 .result) (c .number2 .ensures), pre .1 .pulse e)
+cast-t8 c = omega (arith, c .number2 .ensures, c .before .before .before .pre .1 .pulse (c .before .before .match .keys5))
 
 returns : tie.Need-returns
 returns c = waits _ (c .before .args .item) (c .before .pre .0) (c .match .keys1)

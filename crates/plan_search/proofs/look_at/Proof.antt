@@ -1,43 +1,33 @@
--- The fetched item is the stored one; each test decides one of the look's. A valid jump has room, a target of 16 bits and a repeat that the code reads.
+-- The fetched item is the stored one; each test decides one of the look's. A valid jump has room and a target of 16 bits.
 use Prim.Native.Nat.{ℕ, _<_}
 use native.Mathlib.Omega.{arith}
 use mathlib.Core.Path.{_≡_, refl, sym, ap, _∙_}
 use mathlib.Core.List.{List, []}
 use mathlib.Core.Bool.{Bool, true, false, not, cond}
 use lib.ListN.{getD}
-use lib.IntN.{pos, negsuc}
-use lib.Signed.{leZ}
-use borrow.Author.Tests.{lt-ltb, eq-eqb, ne-eqb, leb-true, not-false}
+use lib.IntN.{ℤ}
+use mir.Syntax.{w32}
+use mir.Val.{SFits}
+use borrow.Author.Tests.{eq-eqb, ne-eqb, not-false}
 use borrow.Author.Needs.{needs}
-use Rattle.rules.specs.Limits.{flight, halfClock, forever, maxRuns, maxJumps, accepted}
+use Rattle.rules.specs.Limits.{flight, maxJumps, accepted}
 use Rattle.rules.specs.Messages as rules
-use Rattle.rules.specs.Values as values
-use Rattle.rules.specs.Values.{integer, notWhole, float, wholeOf, wholeFrom, wholeNumber}
+use Rattle.rules.specs.Values.{float, wholeOf, wholeNumber}
 use Rattle.rules.specs.Items.{isJump, fault}
-use Rattle.rules.specs.NextCommand.{commandOf, targetOf, repeatOf, passedOver}
-use Rattle.rule_laws.specs.Tests.{both}
+use Rattle.rules.specs.NextCommand.{commandOf, targetOf, repeatOf}
+use Rattle.rule_laws.specs.Valid.{ServoFits, valid-servo, ValidJump, valid-jump, target-below}
+use Rattle.values.specs.Integers.{back, back-is}
 use Rattle.item.specs.declared.Item.{Item}
-use Rattle.values.specs.declared.Whole.{Whole}
 use Rattle.item.specs.Patterns.{itemFor, patterns, patterns-of, values-of}
-use Rattle.values.specs.Wholes.{whole32, number31}
 use Rattle.command.specs.declared.Command.{Command}
 use Rattle.command.specs.declared.Command.the-variants.{Stuck}
-use Rattle.plan_search.specs.declared.Met.the-variants.{Ends, Stands, Follows}
+use Rattle.plan_search.specs.declared.Met.the-variants.{Ends, Stands}
 use Rattle.plan_search.specs.declared.Look.{Look}
-use Rattle.plan_search.specs.declared.Look.the-variants.{Meets, PassedOver}
+use Rattle.plan_search.specs.declared.Look.the-variants.{Meets}
 use Rattle.plan_search.specs.Orders.{commandFor}
-use Rattle.plan_search.specs.Valid.{ServoFits, valid-servo, ValidJump, valid-jump, target-below}
-use Rattle.plan_search.specs.Meeting.{isCounted, lookAs, jumpAs}
+use Rattle.plan_search.specs.Meeting.{lookAs, jumpAs}
 use Rattle.plan_search.proofs.look_at.Statement.{statement}
 use Rattle.plan_search.proofs.look_at.Tie as tie
-
--- the code's reading of a valid repeat decides as the rules' does
-jump-is : (w : values.Whole) (target j runs : ℕ) → wholeFrom forever (pos maxRuns) w ≡ true
-    → jumpAs (whole32 w) target j runs ≡ cond (passedOver w runs) PassedOver (Meets (Follows j target (isCounted w)))
-unfolding jumpAs whole32 wholeFrom passedOver isCounted
-jump-is (integer (pos r)) target j runs e = rw (lt-ltb r halfClock (omega (arith, leb-true r maxRuns e)))
-jump-is (integer (negsuc r)) target j runs e = rw (lt-ltb r halfClock (omega (arith, leb-true r 0 (both (leZ forever (negsuc r)) true e .0))))
-jump-is notWhole target j runs e = refl
 
 module _ (size : ℕ) (counts : List ℕ) (n j : ℕ) (item : Item) (i : rules.Item) (is : item ≡ itemFor i) (v : ℕ) (ev : v ≡ fault flight size n j (patterns item)) where
   judged : v ≡ fault flight size n j i
@@ -70,24 +60,20 @@ module _ (size : ℕ) (counts : List ℕ) (n j : ℕ) (item : Item) (i : rules.I
         room : j < maxJumps
         room = valid .room
 
-        target-is : (t : ℕ) → t ≡ number31 (wholeNumber (wholeOf (float (patterns item .param1)))) → size < 65536 → t ≡ targetOf i
-        unfolding number31
-        target-is t et few =
-            let below = target-below size n (wholeOf (float (i .param1))) (valid .target) in
-            et ∙ ap (λ (p : rules.Item). number31 (targetOf p)) (patterns-of is) ∙ rw (lt-ltb (targetOf i) halfClock (omega arith))
+        module _ (t : ℕ) (et : t ≡ wholeNumber (wholeOf (float (patterns item .param1)))) where
+          target-is : t ≡ targetOf i
+          target-is = et ∙ ap targetOf (patterns-of is)
 
-        target-fits : (t : ℕ) → t ≡ number31 (wholeNumber (wholeOf (float (patterns item .param1)))) → size < 65536 → t < 65536
-        target-fits t et few = omega (arith, target-is t et few, target-below size n (wholeOf (float (i .param1))) (valid .target))
+          target-fits : size < 65536 → t < 65536
+          target-fits few = omega (arith, target-is, target-below size n (wholeOf (float (i .param1))) (valid .target))
 
-        follows : (t : ℕ) (repeat : Whole) (r : Look) → t ≡ number31 (wholeNumber (wholeOf (float (patterns item .param1)))) → size < 65536
-            → repeat ≡ whole32 (repeatOf (patterns item)) → r ≡ jumpAs repeat t j (getD counts j 0) → r ≡ lookAs size counts n j i
-        unfolding lookAs
-        follows t repeat r et few ew er =
-            er
-            ∙ ap (λ (k : ℕ). jumpAs repeat k j (getD counts j 0)) (target-is t et few)
-            ∙ ap (λ (w : Whole). jumpAs w (targetOf i) j (getD counts j 0)) (ew ∙ ap (λ (p : rules.Item). whole32 (repeatOf p)) (patterns-of is))
-            ∙ jump-is (repeatOf i) (targetOf i) j (getD counts j 0) (valid .repeats)
-            ∙ rw (eq-eqb (fault flight size n j i) accepted fine, ← jumps, jump)
+          follows : (repeat : ℤ) (r : Look) → SFits w32 repeat → repeat ≡ repeatOf (patterns item) → r ≡ jumpAs (back repeat) t j (getD counts j 0) → r ≡ lookAs size counts n j i
+          unfolding lookAs
+          follows repeat r f ew er =
+              er
+              ∙ ap (λ (k : ℕ). jumpAs (back repeat) k j (getD counts j 0)) target-is
+              ∙ ap (λ (w : ℤ). jumpAs w (targetOf i) j (getD counts j 0)) (back-is repeat f ∙ ew ∙ ap repeatOf (patterns-of is))
+              ∙ rw (eq-eqb (fault flight size n j i) accepted fine, ← jumps, jump)
 
 fetch-requires : tie.Need-fetch-requires
 fetch-requires c κs = search needs
@@ -139,7 +125,7 @@ returns-3 c =
     let judged = jumps .before in
     let fetched = judged .before .before in
     follows _ _ _ _ _ _ (fetched .fetch .ensures) _ (judged .before .verdict .ensures) (judged .if1 .left) _ (jumps .is-jump .ensures)
-    (read .before .before .if2 .left) _ _ _ (read .number1 .ensures) (fetched .before .before .fits .len .fits) (read .before .repeat-of .ensures) (c .jump-look .ensures)
+    (read .before .before .if2 .left) _ (read .number1 .ensures) _ _ (search needs) (read .before .repeat-of .ensures) (c .jump-look .ensures)
 
 pub look-at-spec : {M : Type 1} → statement M
 look-at-spec =
