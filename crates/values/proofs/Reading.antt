@@ -14,7 +14,7 @@ use lib.Ieee.Exact.{HasValue}
 use lib.Ieee.Back.{round-whole}
 use borrow.Author.Tests.{lt-ltb, le-ltb, le-leb, lt-leb, eq-eqb, ne-eqb, ltb-true, ltb-false, leb-true, leb-false, eqb-true, eqb-false}
 use Rattle.rules.specs.Limits.{halfClock}
-use Rattle.rules.specs.Values.{integer, noValue, notWhole, inWord, signedAs, wholeOf, isNone}
+use Rattle.rules.specs.Values.{integer, notWhole, inWord, signedAs, wholeOf, isNone}
 use Rattle.rule_laws.specs.Tests.{eqb-sym}
 use Rattle.float_tests.proofs.NumberTests.{le-or-eq, eqb-scaled}
 

@@ -7,7 +7,7 @@ use native.Mathlib.Numerals.{add-one}
 use borrow.Author.Needs.{needs}
 use lib.Dec.{eqb, leb}
 use lib.Ieee.{Float}
-use Rattle.rules.specs.Limits.{fence, sizeOf, itemBytes, maxReturnPoints}
+use Rattle.rules.specs.Limits.{fence, itemBytes, maxReturnPoints}
 use Rattle.rules.specs.Payload.{Bytes}
 use Rattle.rules.specs.Messages.{itemIn}
 use Rattle.rules.specs.Values.{float, wholeOf, wholeNumber}

@@ -1,9 +1,9 @@
 -- The fetched item is the stored one; each test decides one of the look's. A valid jump has room and a target of 16 bits.
 use Prim.Native.Nat.{ℕ, _<_}
 use native.Mathlib.Omega.{arith}
-use mathlib.Core.Path.{_≡_, refl, sym, ap, _∙_}
+use mathlib.Core.Path.{_≡_, sym, ap, _∙_}
 use mathlib.Core.List.{List, []}
-use mathlib.Core.Bool.{Bool, true, false, not, cond}
+use mathlib.Core.Bool.{Bool, true, false, not}
 use lib.ListN.{getD}
 use lib.IntN.{ℤ}
 use mir.Syntax.{w32}
