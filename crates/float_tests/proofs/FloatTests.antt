@@ -1,20 +1,18 @@
 -- The f32 comparisons decide the tests of the rules, for every float: by cases on nan, an infinity and a number, whose
 -- magnitude m * up e is 0 exactly if m is.
-use Prim.Native.Nat.{ℕ, zero, suc, _+_, _*_, _/_, _%_, _≤_, _<_, zero-le}
+use Prim.Native.Nat.{ℕ, zero, suc, _+_, _*_, _≤_, _<_, zero-le}
 use mathlib.Core.Path.{_≡_, refl, sym, ap, _∙_, subst}
-use mathlib.Core.Bool.{Bool, true, false, not, cond, _&&_, _||_, Bool·beq, and-true, or-true, or-false}
+use mathlib.Core.Bool.{Bool, true, false, not, _&&_, _||_, Bool·beq, and-true, or-true, or-false}
 use native.Mathlib.Nat.{zero-mul, mul-one, mul-pos, mul-right-comm, zero-lt-suc}
 use native.Mathlib.Omega.{arith}
-use lib.IntN.{ℤ, pos, negℤ}
-use lib.Signed.{leZ, ltZ}
+use lib.IntN.{ℤ, pos}
 use lib.Dec.{eqb, ltb, leb, eqb·suc-zero}
-use lib.Ieee.{Float, nan, inf, fin, up, down, lt, le, eq, ne, below, level}
+use lib.Ieee.{Float, nan, inf, fin, up, down, lt, le, eq, ne, isNan, below, level}
 use lib.Ieee.Fits.{up-pos, down-pos}
 use lib.Ieee.Exact.{HasValue}
 use borrow.Author.Tests.{lt-ltb, le-leb, eq-eqb, ne-eqb}
 use Rattle.float_tests.proofs.NumberTests.{le-or-eq, leb-scaled}
-use Rattle.rules.specs.Limits.{halfClock}
-use Rattle.rules.specs.Values.{integer, notWhole, inWord, signedAs, finite, atLeastZero, aboveZero, zeroTo, wholeOf, isNone}
+use Rattle.rules.specs.Values.{finite, atLeastZero, aboveZero, zeroTo}
 
 pub finite-is : (x : Float) → (lt (inf true) x && lt x (inf false)) ≡ finite x
 unfolding lt finite
@@ -110,26 +108,14 @@ zero-to-is n (fin t k d) v (fin s m e) =
     ∙ ap (λ (b : Bool). b && le (fin s m e) (fin false k d)) (zero-le-is s m e)
     ∙ limited s m k n e d (v .1)
 
--- ---- no value
+-- ---- no number
 
 same-sign : (s : Bool) → Bool·beq s s ≡ true
 same-sign true = refl
 same-sign false = refl
 
--- no number is read as none
-some : (t : Bool) (v : ℤ) → isNone (cond t (inWord v) notWhole) ≡ false
-unfolding inWord
-some true v = go (leZ (negℤ (pos halfClock)) v && ltZ v (pos halfClock))
-  where
-    go : (t : Bool) → isNone (cond t (integer v) notWhole) ≡ false
-    go true = refl
-    go false = refl
-some false v = refl
-
-pub none-is : (x : Float) → ne x x ≡ isNone (wholeOf x)
-unfolding ne eq wholeOf
-none-is nan = refl
-none-is (inf true) = refl
-none-is (inf false) = refl
-none-is (fin s m e) =
-    rw (eq-eqb (m * up e * down e) (m * up e * down e) refl, same-sign s, some (eqb (m * up e % down e) 0) (signedAs s (m * up e / down e)))
+pub nan-is : (x : Float) → ne x x ≡ isNan x
+unfolding ne eq isNan
+nan-is nan = refl
+nan-is (inf s) = rw (same-sign s)
+nan-is (fin s m e) = rw (eq-eqb (m * up e * down e) (m * up e * down e) refl, same-sign s)

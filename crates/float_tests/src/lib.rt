@@ -1,6 +1,7 @@
 // The tests that the item rules make of floats.
 ghost use mathlib.Core.Path.{_≡_};
-ghost use Rattle.rules.specs.Values.{finite, atLeastZero, aboveZero, zeroTo, wholeOf, isNone};
+ghost use lib.Ieee.{isNan};
+ghost use Rattle.rules.specs.Values.{finite, atLeastZero, aboveZero, zeroTo};
 
 pub fn is_finite(x: f32) -> bool
     ensures { λ r. ⌜ r ≡ finite x ⌝ }
@@ -28,8 +29,8 @@ pub fn zero_to(limit: u16, x: f32) -> bool
 }
 
 // NaN alone differs from itself.
-pub fn is_none(x: f32) -> bool
-    ensures { λ r. ⌜ r ≡ isNone (wholeOf x) ⌝ }
+pub fn is_nan(x: f32) -> bool
+    ensures { λ r. ⌜ r ≡ isNan x ⌝ }
 {
     x != x
 }

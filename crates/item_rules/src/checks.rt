@@ -63,7 +63,7 @@ fn param_ok(rule: ParamRule, count: u16, own: u16, x: f32) -> bool
         ParamRule::AboveZero => values::above_zero(x),
         ParamRule::UpTo(limit) => values::zero_to(limit, x),
         ParamRule::Whole(low, high) => whole_within(low, high, x),
-        ParamRule::WholeOrNone(low, high) => values::is_none(x) | whole_within(low, high, x),
+        ParamRule::WholeOrNone(low, high) => values::is_nan(x) | whole_within(low, high, x),
         ParamRule::Target => is_target(count, own, x),
     }
 }

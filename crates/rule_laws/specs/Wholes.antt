@@ -15,7 +15,7 @@ use lib.Ieee.Bits.{nanBits-is}
 use borrow.Author.Tests.{eqb-true, eq-eqb}
 use Rattle.rules.specs.Limits.{halfClock}
 use Rattle.rules.specs.Messages.{Item}
-use Rattle.rules.specs.Values.{float, Whole, integer, noValue, notWhole, inWord, signedAs, wholeOf, wholeFrom}
+use Rattle.rules.specs.Values.{float, Whole, integer, noValue, notWhole, inWord, signedAs, wholeOf, wholeFrom, isNone}
 use Rattle.rules.specs.Items.{jump, paramOk, placeFault, faultIn, faultAmong, fault}
 use Rattle.rules.specs.NextCommand.{orOne, repeatOf}
 
@@ -60,7 +60,7 @@ quot-is s n d v h e =
 
 -- ± p / d is v exactly if nothing is left over and ± the quotient is v
 module _ (s : Bool) (p d : ℕ) (v : ℤ) (h : 0 < d) where
-  pub whole-quotient : signedAs s p ≡ v *ℤ pos d → (p % d ≡ 0) × (signedAs s (p / d) ≡ v)
+  whole-quotient : signedAs s p ≡ v *ℤ pos d → (p % d ≡ 0) × (signedAs s (p / d) ≡ v)
   whole-quotient e =
       let n = natAbs v in
       let size : p ≡ n * d = sym (size-of s p) ∙ ap natAbs e ∙ size-times v d in (
@@ -68,14 +68,14 @@ module _ (s : Bool) (p d : ℕ) (v : ℤ) (h : 0 < d) where
         ap (λ (k : ℕ). signedAs s (k / d)) size ∙ ap (signedAs s) (mul-div-cancel n h) ∙ quot-is s n d v h (ap (signedAs s) (sym size) ∙ e),
       )
 
-  pub quotient-whole : p % d ≡ 0 → signedAs s (p / d) ≡ v → signedAs s p ≡ v *ℤ pos d
+  quotient-whole : p % d ≡ 0 → signedAs s (p / d) ≡ v → signedAs s p ≡ v *ℤ pos d
   quotient-whole none is =
       let size : p ≡ p / d * d = omega (arith, div-add-mod' p d) in
       ap (signedAs s) size ∙ signed-times s (p / d) d ∙ ap (λ (z : ℤ). z *ℤ pos d) is
 
 -- ---- the readings
 
--- no two readings are the same
+-- no two of the readings are equal: where a premise says so, `cc` finds 0 ≡ 1
 clash : {A : Type 0} → _≡_ {A = ℕ} 0 1 → A
 clash e = absurd (omega arith)
 
@@ -115,20 +115,31 @@ integer-means (fin s m e) v = (reads (eqb (p % d) 0) refl, is-read)
         let q = whole-quotient s p d v (down-pos e) (h .0) in
         rw (eq-eqb (p % d) 0 (q .0), q .1) (in-word v (h .1))
 
--- There is no value exactly if the float is no number.
-pub no-value-means : (x : Float) → (wholeOf x ≡ noValue) ↔ (x ≡ nan)
-unfolding wholeOf inWord
-no-value-means nan = (λ e. refl, λ e. refl)
-no-value-means (inf s) = (λ e. clash cc, λ e. clash cc)
-no-value-means (fin s m e) = (go (eqb (m * up e % down e) 0) (leZ (negℤ (pos halfClock)) v && ltZ v (pos halfClock)), λ h. clash cc)
+-- NaN, by the library's test of it
+pub nan-means : (x : Float) → (isNan x ≡ true) ↔ (x ≡ nan)
+unfolding isNan
+nan-means nan = (λ e. refl, λ e. refl)
+nan-means (inf s) = (λ e. absurd (true≢false (sym e)), λ e. clash cc)
+nan-means (fin s m e) = (λ h. absurd (true≢false (sym h)), λ h. clash cc)
+
+pub none-is-nan : (x : Float) → isNone (wholeOf x) ≡ isNan x
+unfolding wholeOf inWord isNan
+none-is-nan nan = refl
+none-is-nan (inf s) = refl
+none-is-nan (fin s m e) = go (eqb (m * up e % down e) 0) (leZ (negℤ (pos halfClock)) v && ltZ v (pos halfClock))
   where
     v : ℤ
     v = signedAs s (m * up e / down e)
 
-    go : (a b : Bool) → cond a (cond b (integer v) notWhole) notWhole ≡ noValue → fin s m e ≡ nan
-    go true true h = clash cc
-    go true false h = clash cc
-    go false b h = clash cc
+    go : (a b : Bool) → isNone (cond a (cond b (integer v) notWhole) notWhole) ≡ false
+    go true true = refl
+    go true false = refl
+    go false b = refl
+
+-- There is no value exactly if the float is NaN.
+pub no-value-means : (x : Float) → (wholeOf x ≡ noValue) ↔ (x ≡ nan)
+unfolding wholeOf
+no-value-means x = (λ e. nan-means x .0 (sym (none-is-nan x) ∙ ap isNone e), λ e. ap wholeOf e)
 
 -- It is not whole exactly if neither is so.
 pub not-whole-means : (x : Float) → (wholeOf x ≡ notWhole) ↔ ((x ≡ nan → ⊥) × ((v : ℤ) → IsNumber x v → In32 v → ⊥))
@@ -147,17 +158,11 @@ not-whole-means x = (
 
 -- ---- patterns
 
-is-nan : (x : Float) → (isNan x ≡ true) ↔ (x ≡ nan)
-unfolding isNan
-is-nan nan = (λ e. refl, λ e. refl)
-is-nan (inf s) = (λ e. absurd (true≢false (sym e)), λ e. clash cc)
-is-nan (fin s m e) = (λ h. absurd (true≢false (sym h)), λ h. clash cc)
-
 -- A pattern has no value exactly if it is one of NaN's: quiet or signalling, of either sign.
 pub no-value-pattern : (bits : ℕ) → (wholeOf (float bits) ≡ noValue) ↔ (nanBits binary32 bits ≡ true)
 no-value-pattern bits = (
-  λ e. nanBits-is binary32 bits ∙ is-nan (float bits) .1 (no-value-means (float bits) .0 e),
-  λ h. no-value-means (float bits) .1 (is-nan (float bits) .0 (sym (nanBits-is binary32 bits) ∙ h)),
+  λ e. nanBits-is binary32 bits ∙ nan-means (float bits) .1 (no-value-means (float bits) .0 e),
+  λ h. no-value-means (float bits) .1 (nan-means (float bits) .0 (sym (nanBits-is binary32 bits) ∙ h)),
 )
 
 -- ---- a jump whose repeat has no value

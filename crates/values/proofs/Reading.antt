@@ -8,13 +8,13 @@ use native.Mathlib.Omega.{arith}
 use lib.IntN.{ℤ, pos, negsuc, negℤ}
 use lib.Signed.{mag}
 use lib.Dec.{T, eqb, ltb, leb}
-use lib.Ieee.{Float, nan, inf, fin, binary64, up, down, lt, le, eq, ofInt, toSigned}
+use lib.Ieee.{Float, nan, inf, fin, binary64, up, down, lt, le, eq, isNan, ofInt, toSigned}
 use lib.Ieee.Fits.{down-pos}
 use lib.Ieee.Exact.{HasValue}
 use lib.Ieee.Back.{round-whole}
 use borrow.Author.Tests.{lt-ltb, le-ltb, le-leb, lt-leb, eq-eqb, ne-eqb, ltb-true, ltb-false, leb-true, leb-false, eqb-true, eqb-false}
 use Rattle.rules.specs.Limits.{halfClock}
-use Rattle.rules.specs.Values.{integer, notWhole, inWord, signedAs, wholeOf, isNone}
+use Rattle.rules.specs.Values.{integer, notWhole, inWord, signedAs, wholeOf}
 use Rattle.rule_laws.specs.Tests.{eqb-sym}
 use Rattle.float_tests.proofs.NumberTests.{le-or-eq, eqb-scaled}
 
@@ -167,8 +167,8 @@ reading (fin s m e) l h =
     (level-is (ofInt binary64 (signedAs s q)) s q m e (as-float s q (w .most)) ∙ exact (m * up e) (down e))
     ∙ in-range (eqb (m * up e % down e) 0) (signedAs s q) (w .fits)
 
-pub too-large : (x : Float) → isNone (wholeOf x) ≡ false → lt x bound ≡ false → notWhole ≡ wholeOf x
-unfolding lt wholeOf
+pub too-large : (x : Float) → isNan x ≡ false → lt x bound ≡ false → notWhole ≡ wholeOf x
+unfolding lt wholeOf isNan
 too-large nan some h = absurd (false≢true (sym some))
 too-large (inf s) some h = refl
 too-large (fin false m e) some h =
@@ -180,8 +180,8 @@ beyond : (q : ℕ) → halfClock < q → halfClock ≤ mag (negℤ (pos q))
 beyond zero h = absurd (omega arith)
 beyond (suc q) h = omega arith
 
-pub too-small : (x : Float) → isNone (wholeOf x) ≡ false → le lowest x ≡ false → notWhole ≡ wholeOf x
-unfolding lt le eq wholeOf
+pub too-small : (x : Float) → isNan x ≡ false → le lowest x ≡ false → notWhole ≡ wholeOf x
+unfolding lt le eq wholeOf isNan
 too-small nan some h = absurd (false≢true (sym some))
 too-small (inf s) some h = refl
 too-small (fin false m e) some h =

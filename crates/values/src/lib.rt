@@ -6,7 +6,7 @@ ghost use Rattle.values.specs.Wholes.{meant};
 pub use float_tests::above_zero;
 pub use float_tests::at_least_zero;
 pub use float_tests::is_finite;
-pub use float_tests::is_none;
+pub use float_tests::is_nan;
 pub use float_tests::zero_to;
 
 // The float of a bit pattern; of every NaN pattern the NaN.
@@ -40,7 +40,7 @@ pub enum Whole {
 pub fn whole_of(x: f32) -> Whole
     ensures { λ r. ⌜ meant r ≡ wholeOf x ⌝ }
 {
-    if is_none(x) {
+    if is_nan(x) {
         return Whole::NoValue;
     }
     if x >= -2147483648.0 {

@@ -1,26 +1,21 @@
 -- A pattern above an infinity's is a NaN's, and `float` reads each of those as the one NaN.
-use mathlib.Core.Path.{_≡_, refl, sym, _∙_, subst}
-use mathlib.Core.Bool.{Bool, true, not}
+use mathlib.Core.Path.{sym, _∙_, subst}
+use mathlib.Core.Bool.{Bool, not}
 use lib.Dec.{T}
-use lib.Ieee.{Float, nan, inf, fin, binary32, ofBits, div, isNan}
+use lib.Ieee.{binary32, ofBits, div}
 use lib.Ieee.Bits.{nanBits-is, nanBits-above}
 use borrow.Author.Needs.{needs}
 use borrow.Author.Tests.{lt-ltb, le-ltb}
 use Rattle.rules.specs.Values.{float}
+use Rattle.rule_laws.specs.Wholes.{nan-means}
 use Rattle.values.proofs.float_of.Statement.{statement}
 use Rattle.values.proofs.float_of.Tie as tie
-
-is-nan : (x : Float) → isNan x ≡ true → nan ≡ x
-unfolding isNan
-is-nan nan e = refl
-is-nan (inf s) e = cc
-is-nan (fin s m d) e = cc
 
 returns : tie.Need-returns
 unfolding ofBits div
 returns c =
-    is-nan (float (c .before .args .bits))
-    (sym (nanBits-is binary32 (c .before .args .bits)) ∙ nanBits-above binary32 (c .before .args .bits) ∙ lt-ltb _ _ (c .if1 .taken))
+    let bits = c .before .args .bits in
+    sym (nan-means (float bits) .0 (sym (nanBits-is binary32 bits) ∙ nanBits-above binary32 bits ∙ lt-ltb _ _ (c .if1 .taken)))
 
 float-from-bits-result : tie.Need-float-from-bits-result
 float-from-bits-result c =

@@ -2,8 +2,8 @@
 -- every float. An integer that fits is read back from its bits as itself.
 use Prim.Native.Nat.{_<_, _^_}
 use native.Mathlib.Nat.{lt-trans}
-use mathlib.Core.Path.{_≡_, refl, sym, ap, _∙_, subst}
-use mathlib.Core.Bool.{Bool, true, false, true≢false, cond}
+use mathlib.Core.Path.{_≡_, sym, ap, _∙_, subst}
+use mathlib.Core.Bool.{Bool, true, false, cond}
 use lib.IntN.{ℤ}
 use lib.Signed.{mag}
 use lib.Dec.{lit<}
@@ -12,7 +12,8 @@ use mir.Syntax.{w32, w64}
 use mir.Val.{SFits, toZ, ofZ}
 use mir.ValLaws.{toZ-ofZ}
 use borrow.Author.Needs.{needs, sfits-of}
-use Rattle.rules.specs.Values.{Whole, integer, noValue, notWhole, wholeOf, isNone}
+use Rattle.rules.specs.Values.{integer, notWhole, wholeOf}
+use Rattle.rule_laws.specs.Wholes.{nan-means, no-value-means}
 use Rattle.values.proofs.Reading.{lowest, bound, reading, cut-fits, cut-defined, too-large, too-small}
 use Rattle.values.proofs.whole_of.Statement.{statement}
 use Rattle.values.proofs.whole_of.Tie as tie
@@ -41,17 +42,13 @@ module _ (x : Float) (z : ℤ) (l : le lowest x ≡ true) (h : lt x bound ≡ tr
       ∙ ap (λ (k : ℤ). cond (eq (ofInt binary64 k) x) (integer k) notWhole) (same ∙ cut)
       ∙ reading x l h
 
--- no value
-none-read : (w : Whole) → true ≡ isNone w → noValue ≡ w
-none-read noValue e = refl
-none-read (integer v) e = absurd (true≢false e)
-none-read notWhole e = absurd (true≢false e)
-
-is-none-requires : tie.Need-is-none-requires
-is-none-requires c κs = search needs
+is-nan-requires : tie.Need-is-nan-requires
+is-nan-requires c κs = search needs
 
 returns : tie.Need-returns
-returns c = none-read (wholeOf (c .before .before .args .x)) (sym (c .if1 .taken) ∙ c .before .is-none .ensures)
+returns c =
+    let x = c .before .before .args .x in
+    sym (no-value-means x .1 (nan-means x .0 (sym (c .before .is-nan .ensures) ∙ c .if1 .taken)))
 
 cast-n : tie.Need-cast-n
 unfolding ofBits neg
@@ -87,19 +84,19 @@ returns-4 : tie.Need-returns-4
 unfolding ofBits neg
 returns-4 c =
     let start = c .before .before .before in
-    too-large (start .before .args .x) (sym (start .is-none .ensures) ∙ c .before .before .if1 .left) (c .if3 .left)
+    too-large (start .before .args .x) (sym (start .is-nan .ensures) ∙ c .before .before .if1 .left) (c .if3 .left)
 
 returns-5 : tie.Need-returns-5
 unfolding ofBits neg
 returns-5 c =
     let start = c .before .before in
-    too-small (start .before .args .x) (sym (start .is-none .ensures) ∙ c .before .if1 .left) (c .if2 .left)
+    too-small (start .before .args .x) (sym (start .is-nan .ensures) ∙ c .before .if1 .left) (c .if2 .left)
 
 pub whole-of-spec : {M : Type 1} → statement M
 whole-of-spec =
     tie.close
     (tie.spec
-    is-none-requires
+    is-nan-requires
     returns
     truncating-f32-to-i64-requires
     cast-n

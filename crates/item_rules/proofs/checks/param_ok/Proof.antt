@@ -7,6 +7,7 @@ use lib.Ieee.{Float}
 use mir.Syntax.{w32}
 use mir.Val.{SFits}
 use Rattle.rules.specs.Values.{Whole, wholeOf, wholeFrom}
+use Rattle.rule_laws.specs.Wholes.{none-is-nan}
 use Rattle.values.specs.Integers.{back, back-is}
 use Rattle.rules.specs.Items.{paramOk}
 use Rattle.item_rules.specs.Table.{ruleOf}
@@ -58,8 +59,8 @@ whole-within-requires c κs = search needs
 enum-known-rule-3 : tie.Need-enum-known-rule-3
 enum-known-rule-3 c = search needs
 
-is-none-requires : tie.Need-is-none-requires
-is-none-requires c κs = search needs
+is-nan-requires : tie.Need-is-nan-requires
+is-nan-requires c κs = search needs
 
 whole-within-requires-2 : tie.Need-whole-within-requires-2
 whole-within-requires-2 c κs = search needs
@@ -114,7 +115,7 @@ unfolding paramOk
 returns-7 c =
     let a = c .before .before .before .before .before .args in
     let read = c .before .before .before .rule3 .given in
-    ap₂ _||_ (c .before .is-none .ensures)
+    ap₂ _||_ (c .before .is-nan .ensures ∙ sym (none-is-nan (a .x)))
     (c .whole-within2 .ensures ∙ as-passed (read .0 .0) (read .0 .1 .0) (search needs) (search needs) (wholeOf (a .x)))
     ∙ sym (by-rule (a .count) (a .own) (a .x) (read .1))
 
@@ -140,7 +141,7 @@ param-ok-spec =
     enum-known-rule-2
     whole-within-requires
     enum-known-rule-3
-    is-none-requires
+    is-nan-requires
     whole-within-requires-2
     enum-told-5
     is-target-requires
