@@ -207,6 +207,18 @@ pub enum Reading {
     NotWhole,
 }
 
+/// The first and last patterns of NaNs, quiet and signalling, of either sign.
+pub const NANS: [u32; 8] = [
+    0x7FC0_0000,
+    0x7FFF_FFFF,
+    0x7F80_0001,
+    0x7FBF_FFFF,
+    0xFFC0_0000,
+    0xFFFF_FFFF,
+    0xFF80_0001,
+    0xFFBF_FFFF,
+];
+
 /// The bit that tells a quiet NaN from a signalling one.
 const QUIET: u32 = 1 << 22;
 
@@ -264,18 +276,6 @@ mod tests {
     fn with_params(command: u16, first: f32, second: f32) -> Item {
         Item { params: [first.to_bits(), second.to_bits(), 0, 0], ..item(command) }
     }
-
-    /// The first and last patterns of quiet and of signalling NaNs, of either sign.
-    const NANS: [u32; 8] = [
-        0x7FC0_0000,
-        0x7FFF_FFFF,
-        0x7F80_0001,
-        0x7FBF_FFFF,
-        0xFFC0_0000,
-        0xFFFF_FFFF,
-        0xFF80_0001,
-        0xFFBF_FFFF,
-    ];
 
     #[test]
     fn readings_are_exact() {

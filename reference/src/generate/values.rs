@@ -1,7 +1,8 @@
 //! Items for generated uploads: valid ones, whole plans, and items at the edges
 //! of every rule.
 
-use crate::items::{DO_JUMP, LAND, RETURN_HOME, RETURN_POINT, VERTEX_EXCLUSION, VERTEX_INCLUSION};
+use crate::items::{DO_JUMP, LAND, NANS, RETURN_HOME, RETURN_POINT};
+use crate::items::{VERTEX_EXCLUSION, VERTEX_INCLUSION};
 use crate::layout::{address, Item};
 use crate::limits::*;
 use crate::random::Random;
@@ -30,18 +31,6 @@ const EDGE_FLOATS: [u32; 68] = [
     0x4B80_0000, 0x4F00_0000, 0x4F80_0000, 0x5F00_0000, 0x5F80_0000, 0xDF00_0000, 0x7F7F_FFFF,
     0xFF7F_FFFF, 0x7F80_0000, 0xFF80_0000, 0x7FC0_0000, 0xFFC0_0000, 0x7F80_0001, 0xFFFF_FFFF,
     0x7FFF_FFFF, 0xFF80_0001, 0x4EFF_FFFF, 0xCF00_0000, 0xCF00_0001,
-];
-
-/// NaNs, quiet and signalling, of either sign.
-const NO_VALUES: [u32; 8] = [
-    0x7FC0_0000,
-    0x7FFF_FFFF,
-    0x7F80_0001,
-    0x7FBF_FFFF,
-    0xFFC0_0000,
-    0xFFFF_FFFF,
-    0xFF80_0001,
-    0xFFBF_FFFF,
 ];
 
 pub fn commands(kind: usize) -> &'static [u16] {
@@ -156,7 +145,7 @@ fn jump(random: &mut Random, number: u16, count: u16) -> Item {
     let repeat = match random.below(8) {
         0 => (-1.0f32).to_bits(),
         1 => random.pick(&[0, 1 << 31, bits(32767), bits(40)]),
-        2 => random.pick(&NO_VALUES),
+        2 => random.pick(&NANS),
         _ => bits(random.below(4)),
     };
     jump_to(random, number, target, repeat)
@@ -330,7 +319,7 @@ fn edge_param(random: &mut Random, item: &Item, count: u16, param: usize) -> u32
         [] => random.pick(&EDGE_FLOATS),
         _ => match random.below(8) {
             0 => random.pick(&EDGE_FLOATS),
-            1 => random.pick(&NO_VALUES),
+            1 => random.pick(&NANS),
             _ => random.pick(own).to_bits(),
         },
     }
