@@ -108,7 +108,7 @@ zero-to-is n (fin t k d) v (fin s m e) =
     ∙ ap (λ (b : Bool). b && le (fin s m e) (fin false k d)) (zero-le-is s m e)
     ∙ limited s m k n e d (v .1)
 
--- ---- no number
+-- ---- NaN
 
 same-sign : (s : Bool) → Bool·beq s s ≡ true
 same-sign true = refl

@@ -7,7 +7,7 @@ use mathlib.Core.Bool.{Bool, true, false, true≢false, not, cond}
 use lib.ListN.{getD}
 use lib.IntN.{ℤ, pos, negsuc}
 use lib.Dec.{eqb}
-use borrow.Author.Tests.{eqb-true, leb-true, leb-false, not-false}
+use borrow.Author.Tests.{eqb-true, not-false}
 use Rattle.rules.specs.Limits.{flight, maxRuns, maxJumps, accepted}
 use Rattle.rules.specs.Payload.{Bytes}
 use Rattle.rules.specs.Messages.{Item, itemIn}
@@ -15,7 +15,7 @@ use Rattle.rules.specs.Values.{wholeOf, float}
 use Rattle.rules.specs.Items.{isJump, fault}
 use Rattle.rules.specs.NextCommand.{commandOf, targetOf, repeatOf, passedOver, ends, stands, follows, meets}
 use Rattle.rules.specs.NextCommand as rules
-use Rattle.rule_laws.specs.Valid.{Repeats, valid-jump, target-below}
+use Rattle.rule_laws.specs.Valid.{Repeats, valid-jump, target-below, runs-below}
 use Rattle.command.specs.declared.Command.the-variants.{Stuck}
 use Rattle.plan_search.specs.declared.Met.{Met}
 use Rattle.plan_search.specs.declared.Met.the-variants.{Ends, Stands, Follows}
@@ -66,8 +66,8 @@ meets-one size counts b rest n j =
 
 -- a run that is counted is one of at most 32767
 counted-below : (r : ℤ) (c : ℕ) → Repeats r → passedOver r c ≡ false → isCounted r ≡ true → c < maxRuns
-unfolding passedOver isCounted
-counted-below (pos r) c valid over counted = omega (arith, leb-true r maxRuns valid, leb-false r c over)
+unfolding isCounted
+counted-below (pos r) c valid over counted = runs-below r c valid over
 counted-below (negsuc r) c valid over counted = absurd (true≢false (sym counted))
 
 -- a jump to follow is one of the plan's fifteen, has its target in the plan, and a run of it that is counted is one of at most 32767

@@ -11,7 +11,7 @@ use Rattle.rules.specs.Limits.{flight, maxJumps, maxRuns, forever, firstServo, 
 use Rattle.rules.specs.Messages.{Item}
 use Rattle.rules.specs.Values.{float, Whole, integer, noValue, notWhole, wholeOf, wholeFrom, isNone, wholeNumber}
 use Rattle.rules.specs.Items.{Row, isTarget, isWhole, isWholeOrNone, jump, setServo, isJump, targetIn, paramOk, frameOk, placeFault, roomFault, faultIn, faultAmong, fault}
-use Rattle.rules.specs.NextCommand.{orOne, repeatOf}
+use Rattle.rules.specs.NextCommand.{orOne, repeatOf, passedOver}
 use Rattle.rule_laws.specs.Tests.{both}
 
 -- ---- a row
@@ -80,6 +80,11 @@ target-below size own (integer (pos t)) e = ltb-true t size (both (ltb t size) (
 target-below size own (integer (negsuc t)) e = absurd (true≢false (sym e))
 target-below size own noValue e = absurd (true≢false (sym e))
 target-below size own notWhole e = absurd (true≢false (sym e))
+
+-- a jump that repeats a number of times and is not passed over has run fewer times than the limit
+pub runs-below : (r c : ℕ) → Repeats (pos r) → passedOver (pos r) c ≡ false → c < maxRuns
+unfolding passedOver
+runs-below r c within left = omega (arith, leb-true r maxRuns within, leb-false r c left)
 
 -- ---- servo commands
 

@@ -16,7 +16,7 @@ use Rattle.rules.specs.Values.{wholeFrom, wholeNumber, within, integer}
 use Rattle.rules.specs.Items.{targetIn}
 use Rattle.values.specs.declared.Whole.{Whole}
 use Rattle.values.specs.declared.Whole.the-variants.{Integer}
-use Rattle.values.specs.Wholes.{meant}
+use Rattle.values.specs.Wholes.{meant, read-as}
 
 -- an i32, as it is read back from its bits
 abbrev pub back : ℤ → ℤ
@@ -46,7 +46,7 @@ within-limit k x v t f e h =
 
 module _ (w : rules.Whole) (n : ℤ) (r : Whole) (is : r ≡ Integer n) (reads : meant r ≡ w) (f : SFits w32 n) where
   whole-is : w ≡ integer n
-  whole-is = sym reads ∙ ap meant is
+  whole-is = sym (read-as reads is)
 
   pub within-is : (low high : ℤ) → SFits w32 low → SFits w32 high → (leZ (back low) (back n) && leZ (back n) (back high)) ≡ wholeFrom low high w
   unfolding wholeFrom

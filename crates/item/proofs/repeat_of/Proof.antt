@@ -1,9 +1,9 @@
 -- By the variant that `whole_of` returned, which is the rules' own reading. The param is its pattern's value, by what the function requires.
-use mathlib.Core.Path.{_≡_, sym, ap, _∙_}
+use mathlib.Core.Path.{_≡_, ap, _∙_}
 use Rattle.rules.specs.Values.{wholeOf}
 use Rattle.rules.specs.NextCommand.{orOne, repeatOf}
 use Rattle.values.specs.declared.Whole.{Whole}
-use Rattle.values.specs.Wholes.{meant}
+use Rattle.values.specs.Wholes.{meant, read-as}
 use Rattle.values.specs.Integers.{back-is}
 use Rattle.item.specs.declared.Item.{Item}
 use Rattle.item.specs.Patterns.{itemFor, patterns}
@@ -12,7 +12,7 @@ use Rattle.item.proofs.repeat_of.Statement.{statement}
 use Rattle.item.proofs.repeat_of.Tie as tie
 
 repeats : (item : Item) (r q : Whole) → item ≡ itemFor (patterns item) → meant r ≡ wholeOf (item .param2) → r ≡ q → orOne (meant q) ≡ repeatOf (patterns item)
-repeats item r q pre reads is = ap orOne (sym (ap meant is) ∙ reads ∙ ap (λ (i : Item). wholeOf (i .param2)) pre)
+repeats item r q pre reads is = ap orOne (read-as reads is ∙ ap (λ (i : Item). wholeOf (i .param2)) pre)
 
 whole-of-requires : tie.Need-whole-of-requires
 whole-of-requires c κs = search needs

@@ -1,9 +1,9 @@
 -- By the variant that `whole_of` returned, which is the rules' own reading.
-use mathlib.Core.Path.{sym, ap, _∙_}
+use mathlib.Core.Path.{ap}
 use mathlib.Core.Bool.{true, false}
 use Rattle.rules.specs.Values.{wholeOf, wholeNumber}
 use Rattle.values.specs.Integers.{cast-defined, number-is}
-use Rattle.values.specs.Wholes.{meant}
+use Rattle.values.specs.Wholes.{read-as}
 use borrow.Author.Needs.{needs}
 use Rattle.values.proofs.number_of.Statement.{statement}
 use Rattle.values.proofs.number_of.Tie as tie
@@ -39,11 +39,11 @@ returns-2 c =
 
 returns-3 : tie.Need-returns-3
 unfolding wholeNumber
-returns-3 c = ap wholeNumber (sym (ap meant (c .enum-told .given .1)) ∙ c .before .before .whole-of .ensures)
+returns-3 c = ap wholeNumber (read-as (c .before .before .whole-of .ensures) (c .enum-told .given .1))
 
 returns-4 : tie.Need-returns-4
 unfolding wholeNumber
-returns-4 c = ap wholeNumber (sym (ap meant (c .enum-told2 .given .1)) ∙ c .before .before .whole-of .ensures)
+returns-4 c = ap wholeNumber (read-as (c .before .before .whole-of .ensures) (c .enum-told2 .given .1))
 
 pub number-of-spec : {M : Type 1} → statement M
 number-of-spec =

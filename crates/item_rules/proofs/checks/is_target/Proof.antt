@@ -1,8 +1,8 @@
 -- By the variant that `whole_of` returned, which is the rules' own reading. A count is below 2 ^ 31, so it is itself as an i32.
-use mathlib.Core.Path.{sym, ap, _∙_}
+use mathlib.Core.Path.{ap}
 use Rattle.rules.specs.Values.{wholeOf}
 use Rattle.rules.specs.Items.{targetIn}
-use Rattle.values.specs.Wholes.{meant}
+use Rattle.values.specs.Wholes.{read-as}
 use Rattle.values.specs.Integers.{target-is}
 use native.Mathlib.Omega.{arith}
 use borrow.Author.Needs.{needs}
@@ -38,13 +38,13 @@ returns-2 : tie.Need-returns-2
 unfolding targetIn
 returns-2 c =
     let start = c .before .before in
-    ap (targetIn (start .before .args .count) (start .before .args .own)) (sym (ap meant (c .enum-told .given .1)) ∙ start .whole-of .ensures)
+    ap (targetIn (start .before .args .count) (start .before .args .own)) (read-as (start .whole-of .ensures) (c .enum-told .given .1))
 
 returns-3 : tie.Need-returns-3
 unfolding targetIn
 returns-3 c =
     let start = c .before .before in
-    ap (targetIn (start .before .args .count) (start .before .args .own)) (sym (ap meant (c .enum-told2 .given .1)) ∙ start .whole-of .ensures)
+    ap (targetIn (start .before .args .count) (start .before .args .own)) (read-as (start .whole-of .ensures) (c .enum-told2 .given .1))
 
 pub is-target-spec : {M : Type 1} → statement M
 is-target-spec =

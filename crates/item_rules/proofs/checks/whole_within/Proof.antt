@@ -1,7 +1,7 @@
 -- By the variant that `whole_of` returned, which is the rules' own reading.
-use mathlib.Core.Path.{sym, ap, _∙_}
+use mathlib.Core.Path.{ap}
 use Rattle.rules.specs.Values.{wholeOf, wholeFrom}
-use Rattle.values.specs.Wholes.{meant}
+use Rattle.values.specs.Wholes.{read-as}
 use Rattle.values.specs.Integers.{within-is}
 use borrow.Author.Needs.{needs}
 use Rattle.item_rules.proofs.checks.whole_within.Statement.{statement}
@@ -30,13 +30,13 @@ returns-2 : tie.Need-returns-2
 unfolding wholeFrom
 returns-2 c =
     let start = c .before .before in
-    ap (wholeFrom (start .before .args .low) (start .before .args .high)) (sym (ap meant (c .enum-told .given .1)) ∙ start .whole-of .ensures)
+    ap (wholeFrom (start .before .args .low) (start .before .args .high)) (read-as (start .whole-of .ensures) (c .enum-told .given .1))
 
 returns-3 : tie.Need-returns-3
 unfolding wholeFrom
 returns-3 c =
     let start = c .before .before in
-    ap (wholeFrom (start .before .args .low) (start .before .args .high)) (sym (ap meant (c .enum-told2 .given .1)) ∙ start .whole-of .ensures)
+    ap (wholeFrom (start .before .args .low) (start .before .args .high)) (read-as (start .whole-of .ensures) (c .enum-told2 .given .1))
 
 pub whole-within-spec : {M : Type 1} → statement M
 whole-within-spec = tie.close (tie.spec whole-of-requires enum-known-n enum-told enum-told-2 returns returns-2 returns-3)
