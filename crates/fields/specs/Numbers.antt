@@ -1,10 +1,10 @@
 -- Laws of the numbers in bytes, over their width and offset.
-use Prim.Native.Nat.{ℕ, suc, _+_, _*_, _≤_}
-use mathlib.Core.Path.{_≡_, ap, sym, _∙_}
-use native.Mathlib.Nat.{add-assoc}
-use native.Mathlib.Numerals.{add-one}
+use Prim.Native.Nat.{ℕ, zero, suc, _+_, _*_, _^_, _≤_}
+use mathlib.Core.Path.{_≡_, ap, ap₂, sym, _∙_}
+use native.Mathlib.Nat.{zero-add, add-zero, suc-add, mul-comm, mul-assoc, pow-zero, pow-suc}
 use native.Mathlib.Omega.{arith}
 use lib.ListN.{length, getD, List·getD-eq-default}
+use Rattle.rules.specs.Limits.{byteValues}
 use Rattle.rules.specs.Payload.{Bytes, numberAt}
 
 -- "missing bytes are zero"
@@ -19,16 +19,27 @@ number-one at p = omega arith
 pub as-number : {r : ℕ} (at : ℕ) (p : Bytes) → r ≡ getD p at 0 → r ≡ numberAt 1 at p
 as-number at p e = e ∙ sym (number-one at p)
 
--- a number is its low byte and the number above it
-number-more : (size at : ℕ) (p : Bytes) → numberAt (suc size) at p ≡ getD p at 0 + 256 * numberAt size (at + 1) p
+-- a number is that of its low bytes and, above it, that of the others
+number-split : (low high at : ℕ) (p : Bytes) → numberAt (low + high) at p ≡ numberAt low at p + byteValues ^ low * numberAt high (at + low) p
 unfolding numberAt
-number-more size at p = rw add-one
+number-split zero high at p =
+    let here : numberAt (0 + high) at p ≡ numberAt high (at + 0) p = ap₂ (λ (k l : ℕ). numberAt k l p) (zero-add high) (sym (add-zero at)) in
+    rw pow-zero (omega arith)
+number-split (suc low) high at p =
+    let above : ℕ = numberAt high (at + suc low) p in
+    let next : suc at + low ≡ at + suc low = omega arith in
+    let rest : numberAt (low + high) (suc at) p ≡ numberAt low (suc at) p + byteValues ^ low * above =
+    number-split low high (suc at) p ∙ ap (λ (k : ℕ). numberAt low (suc at) p + byteValues ^ low * numberAt high k p) next in
+    let shift : byteValues ^ suc low * above ≡ byteValues * (byteValues ^ low * above) =
+    ap (λ (k : ℕ). k * above) (pow-suc byteValues low ∙ mul-comm (byteValues ^ low) byteValues) ∙ mul-assoc byteValues (byteValues ^ low) above in
+    ap (λ (k : ℕ). numberAt k at p) (suc-add low high) ∙ omega arith
 
--- a number of two bytes, and one of two more
+-- a number of two, of four and of eight bytes, by its halves
 pub number-two : (at : ℕ) (p : Bytes) → numberAt 2 at p ≡ getD p at 0 + 256 * getD p (at + 1) 0
-number-two at p = omega (arith, number-more 1 at p, number-one (at + 1) p)
+number-two at p = omega (arith, number-split 1 1 at p, number-one at p, number-one (at + 1) p)
 
 pub number-four : (at : ℕ) (p : Bytes) → numberAt 4 at p ≡ numberAt 2 at p + 65536 * numberAt 2 (at + 2) p
-number-four at p =
-    let next : numberAt 2 (at + 1 + 1) p ≡ numberAt 2 (at + 2) p = ap (λ (k : ℕ). numberAt 2 k p) (add-assoc at 1 1) in
-    omega (arith, number-two at p, number-more 3 at p, number-more 2 (at + 1) p)
+number-four at p = number-split 2 2 at p
+
+pub number-eight : (at : ℕ) (p : Bytes) → numberAt 8 at p ≡ numberAt 4 at p + 4294967296 * numberAt 4 (at + 4) p
+number-eight at p = number-split 4 4 at p

@@ -13,13 +13,13 @@ pub fn byte_at(p: &[u8], at: usize) -> u8
     if at < p.len() { p[at] } else { 0 }
 }
 
-fn wide16(b: u8) -> u16
+pub fn wide16(b: u8) -> u16
     ensures { λ r. ⌜ r ≡ b ⌝ }
 {
     b as u16
 }
 
-fn wide32(n: u16) -> u32
+pub fn wide32(n: u16) -> u32
     ensures { λ r. ⌜ r ≡ n ⌝ }
 {
     n as u32

@@ -43,7 +43,7 @@ unfolding layoutOf
 layouts-follow id = find-every (λ (l : Layout). follow 0 (l .full) (l .fields)) layouts id refl refl
 
 -- every message fits a reply buffer
-layouts-fit : (id : ℕ) → layoutOf id .full ≤ replyBytesMin
+pub layouts-fit : (id : ℕ) → layoutOf id .full ≤ replyBytesMin
 unfolding layoutOf
 layouts-fit id = leb-true _ _ (find-every (λ (l : Layout). leb (l .full) replyBytesMin) layouts id refl refl)
 

@@ -1,39 +1,76 @@
 // Trimming: "Written payloads drop trailing zero bytes but keep at least one".
 ghost use mathlib.Core.Path.{_≡_};
 ghost use Prim.Native.Nat.{_+_, _<_, _≤_};
-ghost use lib.ListN.{length};
-ghost use lib.Seq.{paste};
-ghost use Rattle.rules.specs.Payload.{trim};
+ghost use lib.ListN.{length, take, drop};
+ghost use Rattle.rules.specs.Payload.{numberAt, significant, trim};
 ghost use Rattle.rules.specs.Layouts.{layoutOf};
 ghost use Rattle.trimming.specs.Written.{Written};
+use copying::copy_front;
+use fields::wide16;
+use fields::wide32;
 
-// Copies the first n bytes of src into out from an offset.
-pub fn copy(src: &[u8], n: usize, out: &mut [u8], at: usize)
-    requires { ⌜ n ≤ length (now src) ⌝ }
-    requires { ⌜ at + n ≤ length (now out) ⌝ }
-    ensures { λ _. ⌜ now (out .exit) ≡ paste (now (out .entry)) at (now (src .entry)) n ⌝ }
+fn wide64(n: u32) -> u64
+    ensures { λ r. ⌜ r ≡ n ⌝ }
 {
-    let mut i = 0;
-    while i < n {
-        out[at + i] = src[i];
-        i += 1;
-    }
+    n as u64
 }
 
-// The length of a message's bytes without trailing zeros: looked for from the end, at least one.
-fn trimmed_len(bytes: &[u8], full: usize) -> usize
-    requires { ⌜ full ≡ length (now bytes) ⌝ }
-    requires { ⌜ 0 < full ⌝ }
+// The number in two bytes, in four, and in eight.
+fn pair_at(bytes: &[u8], at: usize) -> u16
+    requires { ⌜ at + 2 ≤ length (now bytes) ⌝ }
+    ensures { λ r. ⌜ r ≡ numberAt 2 at (now (bytes .entry)) ⌝ }
+{
+    wide16(bytes[at]) + 0x100 * wide16(bytes[at + 1])
+}
+
+fn half_at(bytes: &[u8], at: usize) -> u32
+    requires { ⌜ at + 4 ≤ length (now bytes) ⌝ }
+    ensures { λ r. ⌜ r ≡ numberAt 4 at (now (bytes .entry)) ⌝ }
+{
+    wide32(pair_at(bytes, at)) + 0x1_0000 * wide32(pair_at(bytes, at + 2))
+}
+
+fn word_at(bytes: &[u8], at: usize) -> u64
+    requires { ⌜ at + 8 ≤ length (now bytes) ⌝ }
+    ensures { λ r. ⌜ r ≡ numberAt 8 at (now (bytes .entry)) ⌝ }
+{
+    wide64(half_at(bytes, at)) + 0x1_0000_0000 * wide64(half_at(bytes, at + 4))
+}
+
+// How many of eight bytes are zeros that end them: the first byte of a number that is not zero, from its highest on.
+fn zeros_ending(bytes: &[u8], at: usize) -> usize
+    requires { ⌜ at + 8 ≤ length (now bytes) ⌝ }
+    ensures { λ r. ⌜ r + significant (take 8 (drop at (now (bytes .entry)))) ≡ 8 ⌝ }
+{
+    (u64::leading_zeros(word_at(bytes, at)) / 8) as usize
+}
+
+// The length of bytes without trailing zeros, at least one where there is one: looked for from the end, byte by byte until the steps of eight that are left
+// end behind the first byte.
+pub fn trimmed_len(bytes: &[u8]) -> usize
     ensures { λ r. ⌜ r ≡ length (trim (now (bytes .entry))) ⌝ }
 {
-    let mut n = full;
-    while 1 < n {
+    let mut n = bytes.len();
+    if n == 0 {
+        return 0;
+    }
+    if bytes[n - 1] != 0 {
+        return n;
+    }
+    while n % 8 != 1 {
         if bytes[n - 1] != 0 {
             return n;
         }
         n -= 1;
     }
-    n
+    while 1 < n {
+        let zeros = zeros_ending(bytes, n - 8);
+        if zeros < 8 {
+            return n - zeros;
+        }
+        n -= 8;
+    }
+    1
 }
 
 // Writes the bytes of a message of this id, trimmed, and answers how many. The rest of out stays; all of it if it is shorter than the
@@ -47,7 +84,7 @@ pub fn write_trimmed(id: u32, bytes: &[u8], out: &mut [u8]) -> usize
     if out.len() < full {
         return 0;
     }
-    let n = trimmed_len(bytes, full);
-    copy(bytes, n, out, 0);
+    let n = trimmed_len(bytes);
+    copy_front(bytes, n, out);
     n
 }

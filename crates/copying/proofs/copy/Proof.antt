@@ -1,4 +1,4 @@
--- `trimming::copy` meets its contract. The loop's invariant: the first i bytes are copied, and nothing else changed.
+-- `copying::copy` meets its contract. The loop's invariant: the first i bytes are copied, and nothing else changed.
 use Prim.Native.Nat.{ℕ, _+_, _-_, _≤_}
 use mathlib.Core.Path.{_≡_, refl, sym, ap, _∙_}
 use mathlib.Core.List.{List}
@@ -8,8 +8,8 @@ use lib.ListN.{length, getD, set, length-set}
 use lib.Seq.{paste, paste-zero, paste-suc}
 use denote.Ref.{now}
 use borrow.Author.Needs.{needs}
-use Rattle.trimming.proofs.copy.Statement.{statement}
-use Rattle.trimming.proofs.copy.Tie as tie
+use Rattle.copying.proofs.copy.Statement.{statement}
+use Rattle.copying.proofs.copy.Tie as tie
 
 abbrev Inv-loop : tie.InvT-loop
 Inv-loop src n out₀ at i₀ out i = (i ≤ n) × (out ≡ paste out₀ at src i) × (length out ≡ length out₀)

@@ -1,0 +1,2 @@
+-- What the contracts of the exports cite beside the rules.
+pub mod Taken

@@ -1,0 +1,44 @@
+-- `trimming::word_at` meets its contract: a number of eight bytes is its low half and 2 ^ 32 times its high one.
+use native.Mathlib.Omega.{arith}
+use denote.Ref.{now}
+use Rattle.fields.specs.Numbers.{number-eight}
+use borrow.Author.Needs.{needs}
+use Rattle.trimming.proofs.word_at.Statement.{statement}
+use Rattle.trimming.proofs.word_at.Tie as tie
+
+half-at-requires : tie.Need-half-at-requires
+half-at-requires c κs = search needs
+
+wide64-requires : tie.Need-wide64-requires
+wide64-requires c κs = search needs
+
+add-half-at : tie.Need-add-half-at
+add-half-at c = search needs
+
+half-at-requires-2 : tie.Need-half-at-requires-2
+half-at-requires-2 c κs = search needs
+
+wide64-requires-2 : tie.Need-wide64-requires-2
+wide64-requires-2 c κs = search needs
+
+mul-result : tie.Need-mul-result
+mul-result c = search needs
+
+add-result : tie.Need-add-result
+add-result c = search needs
+
+returns : tie.Need-returns
+returns c = let a = c .before .before .before .before .before .args in omega (arith, number-eight (a .at) (now (a .bytes)))
+
+pub word-at-spec : {M : Type 1} → statement M
+word-at-spec =
+    tie.close
+    (tie.spec
+    half-at-requires
+    wide64-requires
+    add-half-at
+    half-at-requires-2
+    wide64-requires-2
+    mul-result
+    add-result
+    returns)
