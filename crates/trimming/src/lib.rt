@@ -37,7 +37,7 @@ fn word_at(bytes: &[u8], at: usize) -> u64
     wide64(half_at(bytes, at)) + 0x1_0000_0000 * wide64(half_at(bytes, at + 4))
 }
 
-// How many of eight bytes are zeros that end them: the first byte of a number that is not zero, from its highest on.
+// How many zeros end eight bytes: as many as there are whole bytes of leading zeros in their number.
 fn zeros_ending(bytes: &[u8], at: usize) -> usize
     requires { ⌜ at + 8 ≤ length (now bytes) ⌝ }
     ensures { λ r. ⌜ r + significant (take 8 (drop at (now (bytes .entry)))) ≡ 8 ⌝ }
@@ -45,14 +45,14 @@ fn zeros_ending(bytes: &[u8], at: usize) -> usize
     (u64::leading_zeros(word_at(bytes, at)) / 8) as usize
 }
 
-// The length of bytes without trailing zeros, at least one where there is one: looked for from the end, byte by byte until the steps of eight that are left
-// end behind the first byte.
+// The length of bytes without trailing zeros, at least one where there are any: looked for from the end, up to the first byte that is not zero. The last byte is
+// looked at before all else; then the steps are of one byte until steps of eight lead to the first byte, which stays.
 pub fn trimmed_len(bytes: &[u8]) -> usize
     ensures { λ r. ⌜ r ≡ length (trim (now (bytes .entry))) ⌝ }
 {
     let mut n = bytes.len();
     if n == 0 {
-        return 0;
+        return n;
     }
     if bytes[n - 1] != 0 {
         return n;
@@ -70,7 +70,7 @@ pub fn trimmed_len(bytes: &[u8]) -> usize
         }
         n -= 8;
     }
-    1
+    n
 }
 
 // Writes the bytes of a message of this id, trimmed, and answers how many. The rest of out stays; all of it if it is shorter than the

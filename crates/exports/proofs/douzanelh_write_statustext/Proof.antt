@@ -15,7 +15,7 @@ use Rattle.exports.proofs.douzanelh_write_statustext.Statement.{stateme
 use Rattle.exports.proofs.douzanelh_write_statustext.Tie as tie
 
 returns : tie.Need-returns
-returns c = left _ _ _ _ _ _ (c .if1 .taken) refl refl
+returns c = left _ _ _ _ _ _ (λ is. omega arith) refl refl
 
 slice-aggregate-copy : tie.Need-slice-aggregate-copy
 slice-aggregate-copy c = search needs
@@ -33,7 +33,7 @@ returns-2 : tie.Need-returns-2
 returns-2 c =
     let a = c .before .before .before .before .before .before .before .before .before .before .args in
     let text = now (a .text) in
-    let long : length text ≡ textChars = c .before .before .before .before .before .before .before .if1 .left in
+    let long : length text ≡ textChars = omega arith in
     let chars = c .before .before .before .before .before .copy .ensures ∙ append-nil (take textChars text) ∙ take-all textChars text (omega arith) in
     let wrote = c .before .before .write-statustext in
     let means : List ℕ → Type 0 = λ (l : List ℕ). Wrote (statustext (a .severity) l (a .id) (a .chunk)) (now (a .out)) (wrote .last .1 .0) (wrote .result) in

@@ -25,7 +25,7 @@ abbrev μ-loop2 : tie.MeasureT-loop2
 μ-loop2 bytes n₀ n = n
 
 returns : tie.Need-returns Inv-loop μ-loop Inv-loop2 μ-loop2
-returns c = trimmed-none (now (c .before .before .args .bytes)) 0 refl (sym (c .if1 .taken))
+returns c = let bytes = now (c .before .before .args .bytes) in trimmed-none bytes (length bytes) (c .if1 .taken) refl
 
 sub-if2 : tie.Need-sub-if2 Inv-loop μ-loop Inv-loop2 μ-loop2
 sub-if2 c = search needs
@@ -36,7 +36,7 @@ shared-slice-read-if2 c = search needs
 returns-2 : tie.Need-returns-2 Inv-loop μ-loop Inv-loop2 μ-loop2
 returns-2 c =
     let bytes = now (c .before .before .before .before .args .bytes) in
-    trimmed-other bytes (length bytes) (omega arith) (omega arith) (ap significant (take-length bytes)) (c .if2 .taken)
+    trimmed-other bytes (length bytes) (omega arith) (omega arith) (ap significant (take-length bytes)) (λ zero. omega arith)
 
 loop-holds : tie.Need-loop-holds Inv-loop μ-loop Inv-loop2 μ-loop2
 loop-holds c =
@@ -53,7 +53,7 @@ returns-3 : tie.Need-returns-3 Inv-loop μ-loop Inv-loop2 μ-loop2
 returns-3 c =
     let at-loop = c .before .before .before in
     let bytes = now (at-loop .before .before .before .before .before .args .bytes) in
-    trimmed-other bytes (at-loop .loop .n) (at-loop .loop .inv .0) (at-loop .loop .inv .1) (at-loop .loop .inv .2) (c .if3 .taken)
+    trimmed-other bytes (at-loop .loop .n) (at-loop .loop .inv .0) (at-loop .loop .inv .1) (at-loop .loop .inv .2) (λ zero. omega arith)
 
 sub-n : tie.Need-sub-n Inv-loop μ-loop Inv-loop2 μ-loop2
 sub-n c = search needs
@@ -68,7 +68,7 @@ loop-again c =
     let bytes = now (at-loop .before .before .before .before .before .args .bytes) in (
       omega arith,
       omega arith,
-      sym (last-zero bytes n (at-loop .loop .inv .0) (at-loop .loop .inv .1) (c .if3 .left)) ∙ at-loop .loop .inv .2,
+      sym (last-zero bytes n (at-loop .loop .inv .0) (at-loop .loop .inv .1) (omega arith)) ∙ at-loop .loop .inv .2,
     )
 
 loop2-holds : tie.Need-loop2-holds Inv-loop μ-loop Inv-loop2 μ-loop2
@@ -109,8 +109,7 @@ returns-5 : tie.Need-returns-5 Inv-loop μ-loop Inv-loop2 μ-loop2
 returns-5 c =
     let at-loop = c .before in
     let bytes = now (at-loop .before .before .before .before .before .before .before .args .bytes) in
-    let one : at-loop .loop2 .n ≡ 1 = omega arith in
-    sym one ∙ trimmed-one bytes (at-loop .loop2 .n) one (at-loop .loop2 .inv .1) (at-loop .loop2 .inv .2)
+    trimmed-one bytes (at-loop .loop2 .n) (omega arith) (at-loop .loop2 .inv .1) (at-loop .loop2 .inv .2)
 
 pub trimmed-len-spec : {M : Type 1} → statement M
 trimmed-len-spec =
