@@ -96,7 +96,7 @@ fn lines(effort: &Effort, what: &str, measured: fn(&Effort, &[u8]) -> Times) -> 
 /// Compares, measures, and prints; the last line is trimming's largest ratio.
 pub fn run(effort: &Effort) -> Result<(), String> {
     let compared = agree(&OURS, &BY_RPOSITION)? + agree(&OURS, &BY_LOOP)?;
-    println!("the same lengths and bytes from both on {compared} inputs");
+    println!("bench: the same lengths and bytes from both on {compared} inputs");
     println!("{} calls, the least of {} runs in turn", effort.calls, effort.runs);
     lines(effort, "length", length);
     let trimming = lines(effort, "trim", trim);

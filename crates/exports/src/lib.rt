@@ -6,14 +6,11 @@ ghost use Rattle.rules.specs.Payload.{trim};
 ghost use Rattle.rules.specs.Layouts.{layoutOf, statustextId, textChars};
 ghost use Rattle.rules.specs.Messages.{statustext};
 ghost use Rattle.trimming.specs.Written.{Written};
-ghost use Rattle.reply.specs.Written.{Wrote};
-ghost use Rattle.exports.specs.Taken.{Taken};
-use copying::copy;
+ghost use Rattle.reply.specs.Written.{Wrote, Taken};
+use reply::write_bytes;
+use reply::write_text;
 use trimming::trimmed_len;
-use trimming::write_trimmed;
 use wire::STATUSTEXT_ID;
-use wire::Statustext;
-use wire::full_of;
 
 // How many bytes are left of these where trailing zeros are dropped.
 #[no_mangle]
@@ -28,10 +25,7 @@ pub extern "C" fn douzanelh_trimmed_length(bytes: &[u8]) -> usize
 pub extern "C" fn douzanelh_trim_statustext(bytes: &[u8], out: &mut [u8]) -> usize
     ensures { λ r. ⌜ Taken (layoutOf statustextId .full) (now (bytes .entry)) (Written (now (bytes .entry)) (now (out .entry)) (now (out .exit)) r) (now (out .entry)) (now (out .exit)) r ⌝ }
 {
-    if bytes.len() != full_of(STATUSTEXT_ID) {
-        return 0;
-    }
-    write_trimmed(STATUSTEXT_ID, bytes, out)
+    write_bytes(STATUSTEXT_ID, bytes, out)
 }
 
 // Writes a STATUSTEXT of these fields, trimmed, and answers how many bytes.
@@ -45,18 +39,5 @@ pub extern "C" fn douzanelh_write_statustext(
 ) -> usize
     ensures { λ r. ⌜ Taken textChars (now (text .entry)) (Wrote (statustext severity (now (text .entry)) id chunk) (now (out .entry)) (now (out .exit)) r) (now (out .entry)) (now (out .exit)) r ⌝ }
 {
-    if text.len() != 50 {
-        return 0;
-    }
-    let mut chars = [0u8; 50];
-    copy(text, 50, &mut chars, 0);
-    reply::write_statustext(
-        Statustext {
-            severity,
-            text: chars,
-            id,
-            chunk,
-        },
-        out,
-    )
+    write_text(severity, text, id, chunk, out)
 }

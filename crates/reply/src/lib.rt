@@ -1,7 +1,11 @@
 // Writing each message into a lent buffer: the trimmed payload at its start, the rest unchanged, the length answered; it reads back as the
 // message. A buffer that is shorter than the message's full length stays as it is.
+ghost use Rattle.rules.specs.Layouts.{layoutOf, textChars};
+ghost use Rattle.rules.specs.Messages.{statustext};
+ghost use Rattle.trimming.specs.Written.{Written};
 ghost use Rattle.wire.specs.Structs.{currentMessage, countMessage, ackMessage, requestIntMessage, itemIntMessage, statustextMessage};
-ghost use Rattle.reply.specs.Written.{Wrote};
+ghost use Rattle.reply.specs.Written.{Wrote, Taken};
+use copying::copy;
 use item::item_bytes;
 use payloads::ack_bytes;
 use payloads::count_bytes;
@@ -22,6 +26,7 @@ use wire::REQUEST_INT_ID;
 use wire::RequestInt;
 use wire::STATUSTEXT_ID;
 use wire::Statustext;
+use wire::full_of;
 
 pub fn write_current(m: Current, out: &mut [u8]) -> usize
     ensures { λ r. ⌜ Wrote (currentMessage m) (now (out .entry)) (now (out .exit)) r ⌝ }
@@ -64,4 +69,37 @@ pub fn write_statustext(m: Statustext, out: &mut [u8]) -> usize
 {
     let bytes = statustext_bytes(m);
     write_trimmed(STATUSTEXT_ID, &bytes, out)
+}
+
+// A message of this id whose bytes are lent; bytes that are not of its full length are not taken.
+pub fn write_bytes(id: u32, bytes: &[u8], out: &mut [u8]) -> usize
+    ensures { λ r. ⌜ Taken (layoutOf id .full) (now (bytes .entry)) (Written (now (bytes .entry)) (now (out .entry)) (now (out .exit)) r) (now (out .entry)) (now (out .exit)) r ⌝ }
+{
+    if bytes.len() == 0 {
+        return 0;
+    }
+    if bytes.len() != full_of(id) {
+        return 0;
+    }
+    write_trimmed(id, bytes, out)
+}
+
+// A STATUSTEXT whose text is lent; a text that is not of 50 characters is not taken.
+pub fn write_text(severity: u8, text: &[u8], id: u16, chunk: u8, out: &mut [u8]) -> usize
+    ensures { λ r. ⌜ Taken textChars (now (text .entry)) (Wrote (statustext severity (now (text .entry)) id chunk) (now (out .entry)) (now (out .exit)) r) (now (out .entry)) (now (out .exit)) r ⌝ }
+{
+    if text.len() != 50 {
+        return 0;
+    }
+    let mut chars = [0u8; 50];
+    copy(text, 50, &mut chars, 0);
+    write_statustext(
+        Statustext {
+            severity,
+            text: chars,
+            id,
+            chunk,
+        },
+        out,
+    )
 }

@@ -8,6 +8,7 @@ ghost use Rattle.trimming.specs.Written.{Written};
 use copying::copy_front;
 use fields::wide16;
 use fields::wide32;
+use message_table::full_of;
 
 fn wide64(n: u32) -> u64
     ensures { λ r. ⌜ r ≡ n ⌝ }
@@ -80,7 +81,7 @@ pub fn write_trimmed(id: u32, bytes: &[u8], out: &mut [u8]) -> usize
     requires { ⌜ 0 < length (now bytes) ⌝ }
     ensures { λ r. ⌜ Written (now (bytes .entry)) (now (out .entry)) (now (out .exit)) r ⌝ }
 {
-    let full = message_table::full_of(id);
+    let full = full_of(id);
     if out.len() < full {
         return 0;
     }

@@ -1,2 +1,0 @@
--- What the contracts of the exports cite beside the rules.
-pub mod Taken
