@@ -41,10 +41,10 @@ others-end (b ∷ bs) end h =
 
 -- the first bytes of a list, by the w of them from a place on that end them
 
-pub window-zero : (bs : Bytes) (at w : ℕ) → significant (take w (drop at bs)) ≡ 0 → significant (take (at + w) bs) ≡ significant (take at bs)
+window-zero : (bs : Bytes) (at w : ℕ) → significant (take w (drop at bs)) ≡ 0 → significant (take (at + w) bs) ≡ significant (take at bs)
 window-zero bs at w e = ap significant (take-add at w bs) ∙ zeros-end (take at bs) (take w (drop at bs)) e
 
-pub window-other :
+window-other :
     (bs : Bytes) (at w : ℕ) → at ≤ length bs → 0 < significant (take w (drop at bs)) → significant (take (at + w) bs) ≡ at + significant (take w (drop at bs))
 window-other bs at w h some =
     ap significant (take-add at w bs)
@@ -55,11 +55,11 @@ window-other bs at w h some =
 byte-window : (bs : Bytes) (at : ℕ) → at < length bs → take 1 (drop at bs) ≡ getD bs at 0 ∷ []
 byte-window bs at h = ap (take 1) (drop-cons bs at 0 h)
 
-pub byte-zero : (bs : Bytes) (at : ℕ) → at < length bs → getD bs at 0 ≡ 0 → significant (take 1 (drop at bs)) ≡ 0
+byte-zero : (bs : Bytes) (at : ℕ) → at < length bs → getD bs at 0 ≡ 0 → significant (take 1 (drop at bs)) ≡ 0
 unfolding significant
 byte-zero bs at h e = ap significant (byte-window bs at h) ∙ ap (λ (b : ℕ). significant (b ∷ [])) e
 
-pub byte-other : (bs : Bytes) (at : ℕ) → at < length bs → (getD bs at 0 ≡ 0 → ⊥) → significant (take 1 (drop at bs)) ≡ 1
+byte-other : (bs : Bytes) (at : ℕ) → at < length bs → (getD bs at 0 ≡ 0 → ⊥) → significant (take 1 (drop at bs)) ≡ 1
 unfolding significant
 byte-other bs at h e = ap significant (byte-window bs at h) ∙ rw (ne-eqb (getD bs at 0) 0 e)
 
