@@ -26,8 +26,14 @@ fn patterns(length: usize) -> Vec<Vec<u8>> {
     all
 }
 
-/// How many inputs were compared, or the first on which the two differ.
-pub fn agree(a: &Trimmer, b: &Trimmer) -> Result<usize, String> {
+/// The fields of a STATUSTEXT's bytes: severity, text, id, chunk. Taken apart in the caller, so that writing alone is timed.
+#[inline(always)]
+pub fn fields(bytes: &[u8]) -> (u8, &[u8], u16, u8) {
+    (bytes[0], &bytes[1..51], u16::from_le_bytes([bytes[51], bytes[52]]), bytes[53])
+}
+
+/// How many inputs were compared, these STATUSTEXTs among them, or the first on which the two differ.
+pub fn agree(a: &Trimmer, b: &Trimmer, texts: &[[u8; FULL]]) -> Result<usize, String> {
     let mut compared = 0;
     for length in 1..=130 {
         for bytes in patterns(length) {
@@ -37,6 +43,19 @@ pub fn agree(a: &Trimmer, b: &Trimmer) -> Result<usize, String> {
             }
             compared += 1;
         }
+    }
+    for bytes in texts {
+        let (severity, text, id, chunk) = fields(bytes);
+        let what = || format!("the message {bytes:?}");
+        same(FULL, what, |_| (a.length)(bytes), |_| (b.length)(bytes))?;
+        same(FULL, what, |out| (a.trim)(bytes, out), |out| (b.trim)(bytes, out))?;
+        same(
+            FULL,
+            what,
+            |out| (a.write)(severity, text, id, chunk, out),
+            |out| (b.write)(severity, text, id, chunk, out),
+        )?;
+        compared += 3;
     }
     let near = |full: usize| [0, 1, full - 1, full, full + 1, full + 10];
     for room in near(FULL) {

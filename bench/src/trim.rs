@@ -2,7 +2,7 @@
 
 use std::hint::black_box;
 
-use crate::agree::{agree, Trimmer};
+use crate::agree::{agree, fields, Trimmer};
 use crate::measure::{compare, way, Effort, Line, Times};
 use crate::ours;
 use crate::plain::{self, FULL};
@@ -55,21 +55,18 @@ fn trim(effort: &Effort, bytes: &[u8]) -> Times {
 }
 
 fn write(effort: &Effort, bytes: &[u8]) -> Times {
-    let fields = || {
-        let bytes = black_box(bytes);
-        (bytes[0], &bytes[1..51], u16::from_le_bytes([bytes[51], bytes[52]]), bytes[53])
-    };
+    let lent = || fields(black_box(bytes));
     let (mut a, mut b, mut c) = (Line([0; 64]), Line([0; 64]), Line([0; 64]));
     let ours = || {
-        let (severity, text, id, chunk) = fields();
+        let (severity, text, id, chunk) = lent();
         ours::write(severity, text, id, chunk, black_box(&mut a.0))
     };
     let by_rposition = || {
-        let (severity, text, id, chunk) = fields();
+        let (severity, text, id, chunk) = lent();
         plain::write_by_rposition(severity, text, id, chunk, black_box(&mut b.0))
     };
     let by_loop = || {
-        let (severity, text, id, chunk) = fields();
+        let (severity, text, id, chunk) = lent();
         plain::write_by_loop(severity, text, id, chunk, black_box(&mut c.0))
     };
     compare(effort, way("ours", ours), vec![way("rposition", by_rposition), way("loop", by_loop)])
@@ -95,7 +92,8 @@ fn lines(effort: &Effort, what: &str, measured: fn(&Effort, &[u8]) -> Times) -> 
 
 /// Compares, measures, and prints; the last line is trimming's largest ratio.
 pub fn run(effort: &Effort) -> Result<(), String> {
-    let compared = agree(&OURS, &BY_RPOSITION)? + agree(&OURS, &BY_LOOP)?;
+    let texts = texts().map(|(_, bytes)| bytes);
+    let compared = agree(&OURS, &BY_RPOSITION, &texts)? + agree(&OURS, &BY_LOOP, &texts)?;
     println!("bench: the same lengths and bytes from both on {compared} inputs");
     println!("{} calls, the least of {} runs in turn", effort.calls, effort.runs);
     lines(effort, "length", length);
@@ -112,8 +110,9 @@ mod tests {
 
     #[test]
     fn all_agree() {
-        assert!(agree(&OURS, &BY_RPOSITION).is_ok());
-        assert!(agree(&OURS, &BY_LOOP).is_ok());
+        let texts = texts().map(|(_, bytes)| bytes);
+        assert!(agree(&OURS, &BY_RPOSITION, &texts).is_ok());
+        assert!(agree(&OURS, &BY_LOOP, &texts).is_ok());
     }
 
     fn one_byte_early(bytes: &[u8]) -> usize {
@@ -146,7 +145,7 @@ mod tests {
             Trimmer { trim: zeros_past_the_length, ..OURS },
             Trimmer { write: high_byte_lost, ..OURS },
         ] {
-            assert!(agree(&OURS, &wrong).is_err());
+            assert!(agree(&OURS, &wrong, &[]).is_err());
         }
     }
 }
