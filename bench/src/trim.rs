@@ -115,6 +115,11 @@ mod tests {
         assert!(agree(&OURS, &BY_LOOP, &texts).is_ok());
     }
 
+    #[test]
+    fn of_no_bytes_none_are_left() {
+        assert_eq!(ours::length(&[]), 0);
+    }
+
     fn one_byte_early(bytes: &[u8]) -> usize {
         (ours::length(bytes) + 1).min(bytes.len())
     }
