@@ -1,8 +1,9 @@
-// Numbers in bytes, a payload's or the store's, little-endian: read from bytes of any length, where missing ones are zero, and written as bytes.
+// Numbers in bytes, a payload's or the store's, little-endian: read from bytes of any length, where missing ones are zero, read where all are there, and written
+// as bytes.
 ghost use mathlib.Core.Path.{_≡_};
 ghost use mathlib.Core.List.{[], _∷_};
 ghost use Prim.Native.Nat.{_+_, _≤_};
-ghost use lib.ListN.{getD};
+ghost use lib.ListN.{length, getD};
 ghost use Rattle.rules.specs.Limits.{storeBytes};
 ghost use Rattle.rules.specs.Payload.{numberAt, bytesOf};
 
@@ -13,13 +14,13 @@ pub fn byte_at(p: &[u8], at: usize) -> u8
     if at < p.len() { p[at] } else { 0 }
 }
 
-pub fn wide16(b: u8) -> u16
+fn wide16(b: u8) -> u16
     ensures { λ r. ⌜ r ≡ b ⌝ }
 {
     b as u16
 }
 
-pub fn wide32(n: u16) -> u32
+fn wide32(n: u16) -> u32
     ensures { λ r. ⌜ r ≡ n ⌝ }
 {
     n as u32
@@ -39,6 +40,34 @@ pub fn u32_at(p: &[u8], at: usize) -> u32
     ensures { λ r. ⌜ r ≡ numberAt 4 at (now (p .entry)) ⌝ }
 {
     wide32(u16_at(p, at)) + 65536 * wide32(u16_at(p, at + 2))
+}
+
+fn wide64(n: u32) -> u64
+    ensures { λ r. ⌜ r ≡ n ⌝ }
+{
+    n as u64
+}
+
+// The number in two bytes, in four, and in eight, all of which are there: the compiler makes it one load.
+fn pair_at(bytes: &[u8], at: usize) -> u16
+    requires { ⌜ at + 2 ≤ length (now bytes) ⌝ }
+    ensures { λ r. ⌜ r ≡ numberAt 2 at (now (bytes .entry)) ⌝ }
+{
+    wide16(bytes[at]) + 0x100 * wide16(bytes[at + 1])
+}
+
+fn half_at(bytes: &[u8], at: usize) -> u32
+    requires { ⌜ at + 4 ≤ length (now bytes) ⌝ }
+    ensures { λ r. ⌜ r ≡ numberAt 4 at (now (bytes .entry)) ⌝ }
+{
+    wide32(pair_at(bytes, at)) + 0x1_0000 * wide32(pair_at(bytes, at + 2))
+}
+
+pub fn word_at(bytes: &[u8], at: usize) -> u64
+    requires { ⌜ at + 8 ≤ length (now bytes) ⌝ }
+    ensures { λ r. ⌜ r ≡ numberAt 8 at (now (bytes .entry)) ⌝ }
+{
+    wide64(half_at(bytes, at)) + 0x1_0000_0000 * wide64(half_at(bytes, at + 4))
 }
 
 // A number's bytes, lowest first.

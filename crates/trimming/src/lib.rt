@@ -2,41 +2,12 @@
 ghost use mathlib.Core.Path.{_≡_};
 ghost use Prim.Native.Nat.{_+_, _<_, _≤_};
 ghost use lib.ListN.{length, take, drop};
-ghost use Rattle.rules.specs.Payload.{numberAt, significant, trim};
+ghost use Rattle.rules.specs.Payload.{significant, trim};
 ghost use Rattle.rules.specs.Layouts.{layoutOf};
 ghost use Rattle.trimming.specs.Written.{Written};
 use copying::copy_front;
-use fields::wide16;
-use fields::wide32;
+use fields::word_at;
 use message_table::full_of;
-
-fn wide64(n: u32) -> u64
-    ensures { λ r. ⌜ r ≡ n ⌝ }
-{
-    n as u64
-}
-
-// The number in two bytes, in four, and in eight.
-fn pair_at(bytes: &[u8], at: usize) -> u16
-    requires { ⌜ at + 2 ≤ length (now bytes) ⌝ }
-    ensures { λ r. ⌜ r ≡ numberAt 2 at (now (bytes .entry)) ⌝ }
-{
-    wide16(bytes[at]) + 0x100 * wide16(bytes[at + 1])
-}
-
-fn half_at(bytes: &[u8], at: usize) -> u32
-    requires { ⌜ at + 4 ≤ length (now bytes) ⌝ }
-    ensures { λ r. ⌜ r ≡ numberAt 4 at (now (bytes .entry)) ⌝ }
-{
-    wide32(pair_at(bytes, at)) + 0x1_0000 * wide32(pair_at(bytes, at + 2))
-}
-
-fn word_at(bytes: &[u8], at: usize) -> u64
-    requires { ⌜ at + 8 ≤ length (now bytes) ⌝ }
-    ensures { λ r. ⌜ r ≡ numberAt 8 at (now (bytes .entry)) ⌝ }
-{
-    wide64(half_at(bytes, at)) + 0x1_0000_0000 * wide64(half_at(bytes, at + 4))
-}
 
 // How many zeros end eight bytes: as many as there are whole bytes of leading zeros in their number.
 fn zeros_ending(bytes: &[u8], at: usize) -> usize

@@ -1,6 +1,8 @@
 -- `copying::copy_front` meets its contract: behind the first byte, each block is copied where the last one ended, and the last one ends at n.
+use Prim.Native.Nat.{_+_, _*_}
 use native.Mathlib.Omega.{arith}
 use denote.Ref.{now}
+use Rattle.copying.specs.Blocks.{blockBytes}
 use Rattle.copying.proofs.Laws.{one-more, the-last}
 use borrow.Author.Needs.{needs}
 use Rattle.copying.proofs.copy_front.Statement.{statement}
@@ -18,14 +20,14 @@ returns c = search needs
 copy-requires-2 : tie.Need-copy-requires-2
 copy-requires-2 c κs = search needs
 
-copy-16-requires : tie.Need-copy-16-requires
-copy-16-requires c κs = search needs
+copy-block-requires : tie.Need-copy-block-requires
+copy-block-requires c κs = search needs
 
-sub-copy-16 : tie.Need-sub-copy-16
-sub-copy-16 c = search needs
+sub-copy-block : tie.Need-sub-copy-block
+sub-copy-block c = search needs
 
-copy-16-requires-2 : tie.Need-copy-16-requires-2
-copy-16-requires-2 c κs = search needs
+copy-block-requires-2 : tie.Need-copy-block-requires-2
+copy-block-requires-2 c κs = search needs
 
 same-length-2 : tie.Need-same-length-2
 same-length-2 c = search needs
@@ -35,17 +37,17 @@ returns-2 c =
     let a = c .before .before .before .before .before .before .before .before .before .before .before .before .before .before .before .before .args in
     let src = now (a .src) in
     let out = now (a .out) in
-    let first = one-more 16 src out 1 _ _ (c .before .before .before .before .before .before .before .before .before .before .before .copy2 .ensures) (omega arith) (c .before .before .before .before .before .before .before .copy-16 .ensures) in
-    the-last 16 src out 17 _ _ first (a .n) (omega arith) (omega arith) (omega arith) (omega arith) (c .before .before .copy-162 .ensures)
+    let first = one-more blockBytes src out 1 _ _ (c .before .before .before .before .before .before .before .before .before .before .before .copy2 .ensures) (omega arith) (c .before .before .before .before .before .before .before .copy-block .ensures) in
+    the-last blockBytes src out (1 + blockBytes) _ _ first (a .n) (omega arith) (omega arith) (omega arith) (omega arith) (c .before .before .copy-block2 .ensures)
 
-copy-16-requires-3 : tie.Need-copy-16-requires-3
-copy-16-requires-3 c κs = search needs
+copy-block-requires-3 : tie.Need-copy-block-requires-3
+copy-block-requires-3 c κs = search needs
 
-sub-copy-16-2 : tie.Need-sub-copy-16-2
-sub-copy-16-2 c = search needs
+sub-copy-block-2 : tie.Need-sub-copy-block-2
+sub-copy-block-2 c = search needs
 
-copy-16-requires-4 : tie.Need-copy-16-requires-4
-copy-16-requires-4 c κs = search needs
+copy-block-requires-4 : tie.Need-copy-block-requires-4
+copy-block-requires-4 c κs = search needs
 
 same-length-3 : tie.Need-same-length-3
 same-length-3 c = search needs
@@ -55,18 +57,18 @@ returns-3 c =
     let a = c .before .before .before .before .before .before .before .before .before .before .before .before .before .before .before .before .before .before .before .before .before .args in
     let src = now (a .src) in
     let out = now (a .out) in
-    let first = one-more 16 src out 1 _ _ (c .before .before .before .before .before .before .before .before .before .before .before .before .before .before .before .before .copy2 .ensures) (omega arith) (c .before .before .before .before .before .before .before .before .before .before .before .before .copy-16 .ensures) in
-    let second = one-more 16 src out 17 _ _ first (omega arith) (c .before .before .before .before .before .before .before .copy-163 .ensures) in
-    the-last 16 src out 33 _ _ second (a .n) (omega arith) (omega arith) (omega arith) (omega arith) (c .before .before .copy-164 .ensures)
+    let first = one-more blockBytes src out 1 _ _ (c .before .before .before .before .before .before .before .before .before .before .before .before .before .before .before .before .copy2 .ensures) (omega arith) (c .before .before .before .before .before .before .before .before .before .before .before .before .copy-block .ensures) in
+    let second = one-more blockBytes src out (1 + blockBytes) _ _ first (omega arith) (c .before .before .before .before .before .before .before .copy-block3 .ensures) in
+    the-last blockBytes src out (1 + 2 * blockBytes) _ _ second (a .n) (omega arith) (omega arith) (omega arith) (omega arith) (c .before .before .copy-block4 .ensures)
 
-copy-16-requires-5 : tie.Need-copy-16-requires-5
-copy-16-requires-5 c κs = search needs
+copy-block-requires-5 : tie.Need-copy-block-requires-5
+copy-block-requires-5 c κs = search needs
 
-sub-copy-16-3 : tie.Need-sub-copy-16-3
-sub-copy-16-3 c = search needs
+sub-copy-block-3 : tie.Need-sub-copy-block-3
+sub-copy-block-3 c = search needs
 
-copy-16-requires-6 : tie.Need-copy-16-requires-6
-copy-16-requires-6 c κs = search needs
+copy-block-requires-6 : tie.Need-copy-block-requires-6
+copy-block-requires-6 c κs = search needs
 
 same-length-4 : tie.Need-same-length-4
 same-length-4 c = search needs
@@ -76,10 +78,10 @@ returns-4 c =
     let a = c .before .before .before .before .before .before .before .before .before .before .before .before .before .before .before .before .before .before .before .before .before .before .before .before .before .args in
     let src = now (a .src) in
     let out = now (a .out) in
-    let first = one-more 16 src out 1 _ _ (c .before .before .before .before .before .before .before .before .before .before .before .before .before .before .before .before .before .before .before .before .copy2 .ensures) (omega arith) (c .before .before .before .before .before .before .before .before .before .before .before .before .before .before .before .before .copy-16 .ensures) in
-    let second = one-more 16 src out 17 _ _ first (omega arith) (c .before .before .before .before .before .before .before .before .before .before .before .copy-163 .ensures) in
-    let third = one-more 16 src out 33 _ _ second (omega arith) (c .before .before .before .before .before .before .copy-165 .ensures) in
-    the-last 16 src out 49 _ _ third (a .n) (omega arith) (omega arith) (omega arith) (omega arith) (c .before .before .copy-166 .ensures)
+    let first = one-more blockBytes src out 1 _ _ (c .before .before .before .before .before .before .before .before .before .before .before .before .before .before .before .before .before .before .before .before .copy2 .ensures) (omega arith) (c .before .before .before .before .before .before .before .before .before .before .before .before .before .before .before .before .copy-block .ensures) in
+    let second = one-more blockBytes src out (1 + blockBytes) _ _ first (omega arith) (c .before .before .before .before .before .before .before .before .before .before .before .copy-block3 .ensures) in
+    let third = one-more blockBytes src out (1 + 2 * blockBytes) _ _ second (omega arith) (c .before .before .before .before .before .before .copy-block5 .ensures) in
+    the-last blockBytes src out (1 + 3 * blockBytes) _ _ third (a .n) (omega arith) (omega arith) (omega arith) (omega arith) (c .before .before .copy-block6 .ensures)
 
 pub copy-front-spec : {M : Type 1} → statement M
 copy-front-spec =
@@ -89,18 +91,18 @@ copy-front-spec =
     same-length
     returns
     copy-requires-2
-    copy-16-requires
-    sub-copy-16
-    copy-16-requires-2
+    copy-block-requires
+    sub-copy-block
+    copy-block-requires-2
     same-length-2
     returns-2
-    copy-16-requires-3
-    sub-copy-16-2
-    copy-16-requires-4
+    copy-block-requires-3
+    sub-copy-block-2
+    copy-block-requires-4
     same-length-3
     returns-3
-    copy-16-requires-5
-    sub-copy-16-3
-    copy-16-requires-6
+    copy-block-requires-5
+    sub-copy-block-3
+    copy-block-requires-6
     same-length-4
     returns-4)

@@ -7,6 +7,7 @@ use lib.Seq.{paste}
 use Rattle.rules.specs.Limits.{replyBytesMin}
 use Rattle.rules.specs.Payload.{Bytes, trim}
 use Rattle.rule_laws.specs.Layout.{layouts-fit}
+use Rattle.copying.specs.Blocks.{frontBytes}
 use Rattle.trimming.specs.Written.{Written}
 use Rattle.trimming.proofs.Laws.{trim-front, pasted}
 use borrow.Author.Needs.{needs}
@@ -24,7 +25,7 @@ module _ (bytes out : Bytes) (f full : ℕ) (long : length bytes ≡ f) (is : fu
     in-out : full ≤ length out → n ≤ length out
     in-out room = omega (arith, in-bytes)
 
-    in-blocks : f ≤ replyBytesMin → n ≤ 65
+    in-blocks : f ≤ replyBytesMin → n ≤ frontBytes
     in-blocks most = omega (arith, in-bytes)
 
     wrote : full ≤ length out → (out′ : Bytes) → out′ ≡ paste out 0 bytes n → Written bytes out out′ n

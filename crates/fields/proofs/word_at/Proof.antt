@@ -1,10 +1,10 @@
--- `trimming::word_at` meets its contract: a number of eight bytes is its low half and 2 ^ 32 times its high one.
+-- `fields::word_at` meets its contract: a number of eight bytes is its low half and 2 ^ 32 times its high one.
 use native.Mathlib.Omega.{arith}
 use denote.Ref.{now}
 use Rattle.fields.specs.Numbers.{number-eight}
 use borrow.Author.Needs.{needs}
-use Rattle.trimming.proofs.word_at.Statement.{statement}
-use Rattle.trimming.proofs.word_at.Tie as tie
+use Rattle.fields.proofs.word_at.Statement.{statement}
+use Rattle.fields.proofs.word_at.Tie as tie
 
 half-at-requires : tie.Need-half-at-requires
 half-at-requires c κs = search needs

@@ -1,13 +1,14 @@
--- `copying::copy_16` meets its contract: what the block took it gives.
+-- `copying::copy_block` meets its contract: what the block took it gives.
 use Prim.Native.Nat.{ℕ}
 use mathlib.Core.Path.{ap, _∙_}
 use mathlib.Core.List.{List, []}
 use lib.Seq.{paste}
 use denote.Ref.{now}
+use Rattle.copying.specs.Blocks.{blockBytes}
 use Rattle.copying.proofs.Laws.{through-block}
 use borrow.Author.Needs.{needs}
-use Rattle.copying.proofs.copy_16.Statement.{statement}
-use Rattle.copying.proofs.copy_16.Tie as tie
+use Rattle.copying.proofs.copy_block.Statement.{statement}
+use Rattle.copying.proofs.copy_block.Tie as tie
 
 sub-copy : tie.Need-sub-copy
 sub-copy c = search needs
@@ -37,11 +38,11 @@ returns : tie.Need-returns
 returns c =
     let a = c .before .before .before .before .before .before .before .before .before .before .before .args in
     c .before .before .copy2 .ensures
-    ∙ ap (λ (l : List ℕ). paste (now (a .out)) (a .at) l 16) (c .before .before .before .before .before .before .copy .ensures)
-    ∙ through-block 16 (now (a .src)) (now (a .out)) [] (a .at) (search needs)
+    ∙ ap (λ (l : List ℕ). paste (now (a .out)) (a .at) l blockBytes) (c .before .before .before .before .before .before .copy .ensures)
+    ∙ through-block blockBytes (now (a .src)) (now (a .out)) [] (a .at) (search needs)
 
-pub copy-16-spec : {M : Type 1} → statement M
-copy-16-spec =
+pub copy-block-spec : {M : Type 1} → statement M
+copy-block-spec =
     tie.close
     (tie.spec
     sub-copy

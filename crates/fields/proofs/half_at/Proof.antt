@@ -1,10 +1,10 @@
--- `trimming::half_at` meets its contract: a number of four bytes is its low half and 65536 times its high one.
+-- `fields::half_at` meets its contract: a number of four bytes is its low half and 65536 times its high one.
 use native.Mathlib.Omega.{arith}
 use denote.Ref.{now}
 use Rattle.fields.specs.Numbers.{number-four}
 use borrow.Author.Needs.{needs}
-use Rattle.trimming.proofs.half_at.Statement.{statement}
-use Rattle.trimming.proofs.half_at.Tie as tie
+use Rattle.fields.proofs.half_at.Statement.{statement}
+use Rattle.fields.proofs.half_at.Tie as tie
 
 pair-at-requires : tie.Need-pair-at-requires
 pair-at-requires c κs = search needs

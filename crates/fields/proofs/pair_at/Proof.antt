@@ -1,11 +1,11 @@
--- `trimming::pair_at` meets its contract: a number of two bytes is its low byte and 256 times its high one.
+-- `fields::pair_at` meets its contract: a number of two bytes is its low byte and 256 times its high one.
 use Prim.Native.Nat.{_+_}
 use native.Mathlib.Omega.{arith}
 use denote.Ref.{now}
 use Rattle.fields.specs.Numbers.{number-two}
 use borrow.Author.Needs.{needs}
-use Rattle.trimming.proofs.pair_at.Statement.{statement}
-use Rattle.trimming.proofs.pair_at.Tie as tie
+use Rattle.fields.proofs.pair_at.Statement.{statement}
+use Rattle.fields.proofs.pair_at.Tie as tie
 
 shared-slice-read-wide16 : tie.Need-shared-slice-read-wide16
 shared-slice-read-wide16 c = search needs
