@@ -1,5 +1,5 @@
-// Bytes copied between lent slices. Two lent slices may be one memory for all that the compiler knows, so that it copies byte by byte between them; what goes
-// through a local block it moves as a whole.
+// Bytes copied between lent slices. For all that the compiler knows two lent slices may share memory, so that a loop over their bytes tests for that or goes byte
+// by byte; what goes through a local block is moved as a whole.
 ghost use mathlib.Core.Path.{_≡_};
 ghost use Prim.Native.Nat.{_+_, _≤_};
 ghost use lib.ListN.{length, drop};
