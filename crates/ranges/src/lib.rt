@@ -1,21 +1,14 @@
-// The ranges of outcome 15, for every state.
+// The ranges of outcome 15, over the numbers of a state.
 ghost use mathlib.Core.Path.{_≡_};
-ghost use lib.ListN.{length};
-ghost use Rattle.rules.specs.Limits.{kinds};
-ghost use Rattle.rules.specs.Payload.{Bytes};
-ghost use Rattle.rules.specs.Model.{inRange};
-ghost use Rattle.plan.specs.View.{view};
-ghost use Rattle.ranges.specs.Ranges.{runRanged, uploadRanged, planRanged, plansRanged, countsRanged};
+ghost use Rattle.ranges.specs.Ranges.{runRanged, uploadRanged, planRanged, countsRanged, allRanged};
 use limits::FENCE;
 use limits::FLIGHT;
-use limits::JUMP_COUNTS;
 use limits::MAX_REPEATS;
 use limits::MAX_RUNS;
 use limits::RALLY;
 use places::size_of;
 use plan::Plan;
 use plan::Run;
-use plan::State;
 use plan::Upload;
 
 fn run_ranged(run: Run, size: u16) -> bool
@@ -40,38 +33,26 @@ fn plan_ranged(plan: Plan, size: u16) -> bool
     (plan.len <= size) & upload_ranged(upload, size)
 }
 
-fn counts_ranged(counts: [u16; JUMP_COUNTS]) -> bool
-    ensures { λ r. ⌜ r ≡ countsRanged counts ⌝ }
+// All are looked at: a loop that does not leave early is one that the compiler makes wide.
+fn counts_ranged(counts: &[u16]) -> bool
+    ensures { λ r. ⌜ r ≡ countsRanged (now (counts .entry)) ⌝ }
 {
+    let mut ok = true;
     let mut i: usize = 0;
-    while i < JUMP_COUNTS {
-        if MAX_RUNS < counts[i] {
-            return false;
-        }
+    while i < counts.len() {
+        ok = ok & (counts[i] <= MAX_RUNS);
         i += 1;
     }
-    true
+    ok
 }
 
-fn plans_ranged(plans: [Plan; 3]) -> bool
-    ensures { λ r. ⌜ (r ≡ plansRanged plans) × (length plans ≡ length kinds) ⌝ }
+// Whether every number of a state with these plans is in its range.
+pub fn ranged(flight: Plan, fence: Plan, rally: Plan, current: u16, counts: &[u16]) -> bool
+    ensures { λ r. ⌜ r ≡ allRanged flight fence rally current (now (counts .entry)) ⌝ }
 {
-    let flight = plans[0];
-    let fence = plans[1];
-    let rally = plans[2];
     plan_ranged(flight, size_of(FLIGHT))
         & plan_ranged(fence, size_of(FENCE))
         & plan_ranged(rally, size_of(RALLY))
-}
-
-// Whether every number of a state is in its range, whatever the store holds. A state has a plan of each kind.
-pub fn ranged(state: State) -> bool
-    ensures { λ r. ⌜ ((store : Bytes) → r ≡ inRange (view state store)) × (length (state .plans) ≡ length kinds) ⌝ }
-{
-    let plans = state.plans;
-    let flight = plans[0];
-    let counts = state.counts;
-    plans_ranged(plans)
-        & ((state.current < flight.len) | (state.current == 0))
+        & ((current < flight.len) | (current == 0))
         & counts_ranged(counts)
 }

@@ -10,7 +10,8 @@ use Rattle.rules.specs.Limits.{rally, storeBytes, replyBytesMin, shortStore, ou
 use Rattle.rules.specs.Payload.{Bytes}
 use Rattle.rules.specs.Messages.{Station, Message, setCurrent, current, requestList, count, clearAll, ack, requestInt, itemInt, statustext, unknown, decode}
 use Rattle.rules.specs.Calls.{message, timer, done, Request, chooses, asksList, announces, clears, acknowledges, asksItem, brings, Heard, refuses, request, expiry, commandDone, oursOrAll, forUs, heardMessage, heard, isKnown}
-use Rattle.message_table.specs.Table.{isRead, targetOf, kindOf}
+use Rattle.message_table.specs.declared.Head.{Head}
+use Rattle.message_table.specs.Table.{isRead, targetOf, kindOf, headOf}
 
 -- the outcome of a refused call; 0 of any other
 abbrev pub refusalOf : Heard → ℕ
@@ -38,6 +39,11 @@ requestOf (requestInt to seq kind) = asksItem seq
 requestOf (itemInt to isCurrent item) = brings item
 requestOf (statustext severity text id chunk) = asksList
 requestOf unknown = asksList
+
+-- of a payload p it is known whether its message is read here, and where it is, its head
+pub record HeadRead (id : ℕ) (p : Bytes) (read : Bool) (head : Head) : Type 0 where
+  pub isRead : read ≡ isRead (decode id p)
+  pub heads : read ≡ true → head ≡ headOf (decode id p)
 
 -- 14, 15 and 10 in their order; 0 where there is room and every number is in its range
 unfoldable pub roomRefusal : (ranged : Bool) (store reply : ℕ) → ℕ

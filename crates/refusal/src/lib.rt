@@ -1,13 +1,16 @@
 // The refusals of each call, tested in their order: 14, 15, 10, 11, 12, 13. Outcome 0 here says that a call is not refused.
 ghost use mathlib.Core.Path.{_≡_};
 ghost use Prim.Native.Nat.{ℕ};
+ghost use lib.ListN.{length};
+ghost use Rattle.rules.specs.Payload.{Bytes};
 ghost use Rattle.rules.specs.Messages.{Station, station};
 ghost use Rattle.rules.specs.Calls.{message, timer, done, heard, oursOrAll};
-ghost use Rattle.refusal.specs.Refusals.{refusalOf, roomRefusal};
+ghost use Rattle.refusal.specs.Refusals.{refusalOf, roomRefusal, HeadRead};
 use limits::OUT_OF_RANGE;
 use limits::RALLY;
 use limits::REPLY_BYTES;
 use limits::STORE_BYTES;
+use message_table::Head;
 
 const SHORT_REPLY: u8 = 10;
 
@@ -53,28 +56,29 @@ fn room_refusal(ranged: bool, store_len: usize, reply_len: usize) -> u8
     0
 }
 
+// A message call with a payload of some bytes; whether its message is read here, and its head.
 pub fn message_refusal(
     ranged: bool,
     store_len: usize,
     reply_len: usize,
     own_system: u8,
     own_component: u8,
-    id: u32,
-    payload: &[u8],
+    payload_len: usize,
+    read: bool,
+    head: Head,
 ) -> u8
-    ensures { λ r. ⌜ ((from : Station) (clock : ℕ) → r ≡ refusalOf (heard ranged (message (station «own_system» «own_component») from id (now (payload .entry)) clock «store_len» «reply_len»))) ⌝ }
+    ensures { λ r. ⌜ ((from : Station) (id : ℕ) (p : Bytes) (clock : ℕ) → length p ≡ «payload_len» → HeadRead id p read head → r ≡ refusalOf (heard ranged (message (station «own_system» «own_component») from id p clock «store_len» «reply_len»))) ⌝ }
 {
     let first = room_refusal(ranged, store_len, reply_len);
     if first != 0 {
         return first;
     }
-    if payload.len() == 0 {
+    if payload_len == 0 {
         return EMPTY_PAYLOAD;
     }
-    if !message_table::is_read(id) {
+    if !read {
         return NOT_READ;
     }
-    let head = message_table::head_of(id, payload);
     if !(ours_or_all(own_system, head.system) & ours_or_all(own_component, head.component)) {
         return NOT_FOR_US;
     }

@@ -1,31 +1,28 @@
 // The messages that ask for what is shown, and SET_CURRENT, which chooses among it.
 ghost use mathlib.Core.Path.{_≡_};
-ghost use mathlib.Core.Bool.{true};
 ghost use Prim.Native.Nat.{_≤_};
 ghost use lib.ListN.{length};
-ghost use Rattle.rules.specs.Limits.{rally, storeBytes, replyBytesMin};
-ghost use Rattle.rules.specs.Payload.{Bytes};
+ghost use Rattle.rules.specs.Limits.{rally, sizeOf, storeBytes, replyBytesMin};
 ghost use Rattle.rules.specs.Messages.{station};
-ghost use Rattle.ranges.specs.Ranges.{stateRanged};
 ghost use Rattle.rules.specs.Step.{currentField};
-ghost use Rattle.states.specs.Whole.{listDone, requestDone, chooseDone};
-ghost use Rattle.answers.specs.Answered.{AnsweredBy};
-use answers::Served;
-use answers::say::REPLIED;
-use answers::say::ack;
+ghost use Rattle.answers.specs.Answered.{Spoken, Handles};
+ghost use Rattle.shown.specs.Shown.{listAnswer, requestAnswer, chooseEffect, chooseAnswer};
+use answers::Handled;
+use answers::REPLIED;
+use answers::Said;
+use answers::ack;
+use answers::only;
 use limits::FLIGHT;
 use limits::INVALID_SEQUENCE;
-use plan::State;
+use plan::Plan;
 use plan::number_shown;
-use states::chosen_state;
+use upload::Effect;
 
 // REQUEST_LIST: the length of the plan and its number.
-pub fn on_list(state: State, kind: u8, system: u8, component: u8, reply: &mut [u8]) -> Served
-    requires { ⌜ (kind ≤ rally) × (replyBytesMin ≤ length (now reply)) ⌝ }
-    ensures { λ r. ⌜ ((store : Bytes) → AnsweredBy (listDone state store (station system component) kind) (now (reply .entry)) (now (reply .exit)) r) ⌝ }
+pub fn list(plan: Plan, kind: u8, system: u8, component: u8, reply: &mut [u8]) -> Said
+    requires { ⌜ replyBytesMin ≤ length (now reply) ⌝ }
+    ensures { λ r. ⌜ Spoken (listAnswer plan (station system component) kind) (now (reply .entry)) (now (reply .exit)) r ⌝ }
 {
-    let k = kind as usize;
-    let plan = state.plans[k];
     let message = wire::Count {
         count: plan.len,
         system,
@@ -34,8 +31,7 @@ pub fn on_list(state: State, kind: u8, system: u8, component: u8, reply: &mut [u
         number: number_shown(plan),
     };
     let len = reply::write_count(message, reply);
-    Served {
-        state,
+    Said {
         outcome: REPLIED,
         id: wire::COUNT_ID,
         len,
@@ -53,53 +49,42 @@ fn current_field(kind: u8, seq: u16, current: u16) -> u8
 }
 
 // REQUEST_INT: the stored item as of now.
-pub fn on_request(
-    state: State,
+pub fn request(
+    plan: Plan,
+    current: u16,
     store: &[u8],
     kind: u8,
     seq: u16,
     system: u8,
     component: u8,
     reply: &mut [u8],
-) -> Served
-    requires { ⌜ (kind ≤ rally) × (stateRanged state ≡ true) × (storeBytes ≤ length (now store)) × (replyBytesMin ≤ length (now reply)) ⌝ }
-    ensures { λ r. ⌜ AnsweredBy (requestDone state (now (store .entry)) (station system component) kind seq) (now (reply .entry)) (now (reply .exit)) r ⌝ }
+) -> Said
+    requires { ⌜ (kind ≤ rally) × (plan .len ≤ sizeOf kind) × (storeBytes ≤ length (now store)) × (replyBytesMin ≤ length (now reply)) ⌝ }
+    ensures { λ r. ⌜ Spoken (requestAnswer plan current (now (store .entry)) (station system component) kind seq) (now (reply .entry)) (now (reply .exit)) r ⌝ }
 {
-    let k = kind as usize;
-    let plan = state.plans[k];
     if seq < plan.len {
         let item = storage::fetch(store, kind, plan.half, seq);
         let message = wire::ItemInt {
             system,
             component,
-            current: current_field(kind, seq, state.current),
+            current: current_field(kind, seq, current),
             item,
         };
         let len = reply::write_item_int(message, reply);
-        return Served {
-            state,
+        return Said {
             outcome: REPLIED,
             id: wire::ITEM_INT_ID,
             len,
         };
     }
-    let said = ack(INVALID_SEQUENCE, kind, 0, system, component, reply);
-    Served {
-        state,
-        outcome: said.outcome,
-        id: said.id,
-        len: said.len,
-    }
+    ack(INVALID_SEQUENCE, kind, 0, system, component, reply)
 }
 
 // SET_CURRENT: an item of the flight plan becomes current, and CURRENT is written; of an item that is not there a text says so.
-pub fn on_set_current(state: State, seq: u16, reply: &mut [u8]) -> Served
+pub fn set_current(flight: Plan, fence: Plan, rally: Plan, seq: u16, reply: &mut [u8]) -> Handled
     requires { ⌜ replyBytesMin ≤ length (now reply) ⌝ }
-    ensures { λ r. ⌜ ((store : Bytes) → AnsweredBy (chooseDone state store seq) (now (reply .entry)) (now (reply .exit)) r) ⌝ }
+    ensures { λ r. ⌜ Handles (chooseEffect flight seq) (chooseAnswer flight fence rally seq) (now (reply .entry)) (now (reply .exit)) r ⌝ }
 {
-    let flight = state.plans[0];
-    let fence = state.plans[1];
-    let rally = state.plans[2];
     if seq < flight.len {
         let message = wire::Current {
             seq,
@@ -111,20 +96,21 @@ pub fn on_set_current(state: State, seq: u16, reply: &mut [u8]) -> Served
             rally: number_shown(rally),
         };
         let len = reply::write_current(message, reply);
-        let chosen = chosen_state(state, seq);
-        return Served {
-            state: chosen,
+        let said = Said {
             outcome: REPLIED,
             id: wire::CURRENT_ID,
             len,
         };
+        return Handled {
+            effect: Effect::Chooses(seq),
+            said,
+        };
     }
     let message = reply::no_such_item();
     let len = reply::write_statustext(message, reply);
-    Served {
-        state,
+    only(Said {
         outcome: REPLIED,
         id: wire::STATUSTEXT_ID,
         len,
-    }
+    })
 }

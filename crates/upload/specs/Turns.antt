@@ -1,6 +1,6 @@
 -- What each message and timer call makes of one kind's plan, over the state's own records.
 use Prim.Native.Nat.{ℕ, _+_}
-use mathlib.Core.Bool.{Bool, true, false, not, cond, _&&_}
+use mathlib.Core.Bool.{Bool, false, not, cond, _&&_}
 use lib.Dec.{eqb, ltb}
 use Rattle.rules.specs.Limits.{maxRepeats, expiryMs, accepted, noSpace, invalid, invalidSequence, denied, cancelled}
 use Rattle.rules.specs.Payload.{Bytes}
@@ -16,6 +16,7 @@ use Rattle.places.specs.Writes.{putAt}
 use Rattle.plan.specs.View.{stationIn}
 use Rattle.upload.specs.declared.Say.{Say}
 use Rattle.upload.specs.declared.Say.the-variants.{Silent, Ack, Ask}
+use Rattle.upload.specs.declared.Effect.the-variants.{Nothing, Turns, Renews}
 use Rattle.upload.specs.declared.Turned.{Turned}
 
 -- ---- one definition for each update of a plan
@@ -59,28 +60,31 @@ stationOf (Running r) = stationIn r
 
 -- ---- the handlers
 
-abbrev pub keeps : Plan → Say → Turned
-keeps p say = record { plan = p; renewed = false; say = say }
+abbrev pub keeps : Say → Turned
+keeps say = record { effect = Nothing; say = say }
+
+abbrev pub moves : Plan → Say → Turned
+moves p say = record { effect = Turns p; say = say }
 
 abbrev pub renews : Plan → Say → Turned
-renews p say = record { plan = p; renewed = true; say = say }
+renews p say = record { effect = Renews p; say = say }
 
 unfoldable pub countTurned : Plan → Station → (now n size : ℕ) → Turned
 countTurned p from now n size =
-    cond (othersUpload from (p .upload)) (keeps p (Ack denied 0))
-    (cond (ltb size n) (keeps (ended p) (Ack noSpace 0))
+    cond (othersUpload from (p .upload)) (keeps (Ack denied 0))
+    (cond (ltb size n) (moves (ended p) (Ack noSpace 0))
     (cond (eqb n 0) (renews (emptied p) (Ack accepted 0))
-    (keeps (withUpload p (Running (started from now n))) (Ask 0))))
+    (moves (withUpload p (Running (started from now n))) (Ask 0))))
 
 unfoldable pub ackTurned : Plan → Station → (result : ℕ) → Turned
-ackTurned p from result = cond (ownUpload from (p .upload) && not (eqb result accepted)) (keeps (ended p) Silent) (keeps p Silent)
+ackTurned p from result = cond (ownUpload from (p .upload) && not (eqb result accepted)) (moves (ended p) Silent) (keeps Silent)
 
 unfoldable pub timerTurned : Upload → Plan → (now : ℕ) → Turned
-timerTurned Idle p now = keeps p Silent
+timerTurned Idle p now = keeps Silent
 timerTurned (Running r) p now =
-    cond (ltb (elapsed now (r .started)) expiryMs) (keeps p Silent)
-    (cond (ltb (r .repeats) maxRepeats) (keeps (withUpload p (Running (askedAgain r now))) (Ask (r .next)))
-    (keeps (ended p) (Ack cancelled 0)))
+    cond (ltb (elapsed now (r .started)) expiryMs) (keeps Silent)
+    (cond (ltb (r .repeats) maxRepeats) (moves (withUpload p (Running (askedAgain r now))) (Ask (r .next)))
+    (moves (ended p) (Ack cancelled 0)))
 
 -- ---- an item: the plan and the store after it
 
@@ -97,17 +101,17 @@ stored s kind p r item = putAt s (not (p .half)) kind (r .next) (itemOf item)
 
 unfoldable pub validItemTurned : Bytes → (kind : ℕ) → Plan → Run → (now : ℕ) → TurnAndStore
 validItemTurned s kind p r now =
-    cond (not (eqb (r .next + 1) (r .count))) (turnWith (keeps (withUpload p (Running (oneMore r now))) (Ask (r .next + 1))) s)
+    cond (not (eqb (r .next + 1) (r .count))) (turnWith (moves (withUpload p (Running (oneMore r now))) (Ask (r .next + 1))) s)
     (cond (wholeOk kind (itemsIn s (not (p .half)) kind (r .count))) (turnWith (renews (replaced p (r .count)) (Ack accepted (nextNumber (p .number)))) s)
-    (turnWith (keeps (ended p) (Ack invalid 0)) s))
+    (turnWith (moves (ended p) (Ack invalid 0)) s))
 
 abbrev pub itemVerdict : Bytes → (kind : ℕ) → Plan → Run → Item → ℕ
 itemVerdict s kind p r item = fault kind (r .count) (r .next) (jumpsAmong (itemsIn s (not (p .half)) kind (r .next))) item
 
 unfoldable pub itemTurned : Bytes → (kind : ℕ) → Upload → Plan → Station → (now : ℕ) → Item → TurnAndStore
-itemTurned s kind Idle p from now item = turnWith (keeps p (Ack invalidSequence 0)) s
+itemTurned s kind Idle p from now item = turnWith (keeps (Ack invalidSequence 0)) s
 itemTurned s kind (Running r) p from now item =
-    cond (not (sameStation from (stationIn r))) (turnWith (keeps p (Ack denied 0)) s)
-    (cond (not (eqb (item .seq) (r .next))) (turnWith (keeps p (Ask (r .next))) s)
-    (cond (not (eqb (itemVerdict s kind p r item) accepted)) (turnWith (keeps (ended p) (Ack (itemVerdict s kind p r item) 0)) s)
+    cond (not (sameStation from (stationIn r))) (turnWith (keeps (Ack denied 0)) s)
+    (cond (not (eqb (item .seq) (r .next))) (turnWith (keeps (Ask (r .next))) s)
+    (cond (not (eqb (itemVerdict s kind p r item) accepted)) (turnWith (moves (ended p) (Ack (itemVerdict s kind p r item) 0)) s)
     (validItemTurned (stored s kind p r item) kind p r now)))

@@ -8,6 +8,7 @@ use super::counters::elapsed;
 use super::updates::emptied;
 use super::updates::ended;
 use super::updates::keeps;
+use super::updates::moves;
 use super::updates::renews;
 use super::updates::with_upload;
 use super::uploads::others_upload;
@@ -28,10 +29,10 @@ pub fn on_count(plan: Plan, system: u8, component: u8, clock: u32, count: u16, s
 {
     let upload = plan.upload;
     if others_upload(upload, system, component) {
-        return keeps(plan, Say::Ack(DENIED, 0));
+        return keeps(Say::Ack(DENIED, 0));
     }
     if size < count {
-        return keeps(ended(plan), Say::Ack(NO_SPACE, 0));
+        return moves(ended(plan), Say::Ack(NO_SPACE, 0));
     }
     if count == 0 {
         return renews(emptied(plan), Say::Ack(ACCEPTED, 0));
@@ -44,7 +45,7 @@ pub fn on_count(plan: Plan, system: u8, component: u8, clock: u32, count: u16, s
         started: clock,
         repeats: 0,
     };
-    keeps(with_upload(plan, Upload::Running(run)), Say::Ask(0))
+    moves(with_upload(plan, Upload::Running(run)), Say::Ask(0))
 }
 
 // ACK from a station: a result that is not 0 ends the station's own upload.
@@ -53,9 +54,9 @@ pub fn on_ack(plan: Plan, system: u8, component: u8, result: u8) -> Turned
 {
     let upload = plan.upload;
     if own_upload(upload, system, component) & (result != ACCEPTED) {
-        return keeps(ended(plan), Say::Silent);
+        return moves(ended(plan), Say::Silent);
     }
-    keeps(plan, Say::Silent)
+    keeps(Say::Silent)
 }
 
 // A timer call of a running upload: below the expiry nothing, then five times a request again, then the end.
@@ -63,7 +64,7 @@ fn on_expiry(plan: Plan, run: Run, clock: u32) -> Turned
     ensures { λ r. ⌜ r ≡ timerTurned (Upload.Running run) plan clock ⌝ }
 {
     if elapsed(clock, run.started) < EXPIRY_MS {
-        return keeps(plan, Say::Silent);
+        return keeps(Say::Silent);
     }
     if run.repeats < MAX_REPEATS {
         let again = Run {
@@ -74,12 +75,12 @@ fn on_expiry(plan: Plan, run: Run, clock: u32) -> Turned
             started: clock,
             repeats: run.repeats + 1,
         };
-        return keeps(
+        return moves(
             with_upload(plan, Upload::Running(again)),
             Say::Ask(run.next),
         );
     }
-    keeps(ended(plan), Say::Ack(CANCELLED, 0))
+    moves(ended(plan), Say::Ack(CANCELLED, 0))
 }
 
 // A timer call.
@@ -88,7 +89,7 @@ pub fn on_timer(plan: Plan, clock: u32) -> Turned
 {
     let upload = plan.upload;
     match upload {
-        Upload::Idle => keeps(plan, Say::Silent),
+        Upload::Idle => keeps(Say::Silent),
         Upload::Running(run) => on_expiry(plan, run, clock),
     }
 }

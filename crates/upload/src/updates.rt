@@ -1,6 +1,7 @@
-// One function for each update of a plan, and what a handler answers.
+// One function for each update of a plan, and for each answer of a handler.
 ghost use mathlib.Core.Path.{_≡_};
-ghost use Rattle.upload.specs.Turns.{withUpload, ended, emptied, replaced, keeps, renews};
+ghost use Rattle.upload.specs.Turns.{withUpload, ended, emptied, replaced, keeps, moves, renews};
+use super::Effect;
 use super::Say;
 use super::Turned;
 use super::counters::next_number;
@@ -50,13 +51,22 @@ pub fn replaced(plan: Plan, len: u16) -> Plan
     }
 }
 
-// The answer with a plan that was neither replaced nor emptied.
-pub fn keeps(plan: Plan, say: Say) -> Turned
-    ensures { λ r. ⌜ r ≡ keeps plan say ⌝ }
+// The answer of a handler that changes nothing.
+pub fn keeps(say: Say) -> Turned
+    ensures { λ r. ⌜ r ≡ keeps say ⌝ }
 {
     Turned {
-        plan,
-        renewed: false,
+        effect: Effect::Nothing,
+        say,
+    }
+}
+
+// The answer with a plan that was neither replaced nor emptied.
+pub fn moves(plan: Plan, say: Say) -> Turned
+    ensures { λ r. ⌜ r ≡ moves plan say ⌝ }
+{
+    Turned {
+        effect: Effect::Turns(plan),
         say,
     }
 }
@@ -66,8 +76,7 @@ pub fn renews(plan: Plan, say: Say) -> Turned
     ensures { λ r. ⌜ r ≡ renews plan say ⌝ }
 {
     Turned {
-        plan,
-        renewed: true,
+        effect: Effect::Renews(plan),
         say,
     }
 }

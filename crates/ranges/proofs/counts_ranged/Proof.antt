@@ -1,55 +1,55 @@
--- The loop's invariant: each count passed is in its range. The first that is not decides.
-use mathlib.Core.Path.{_≡_, sym}
-use Prim.Native.Nat.{ℕ, _≤_, _<_, _-_}
-use native.Mathlib.Nat.{not-suc-le-zero}
+-- The loop's invariant: the answer so far is that of the counts looked at.
+use mathlib.Core.Path.{_≡_, refl, sym, ap, _∙_}
+use mathlib.Core.List.{List}
+use mathlib.Core.Bool.{Bool, _&&_}
+use Prim.Native.Nat.{ℕ, _+_, _≤_, _<_, _-_}
 use native.Mathlib.Omega.{arith}
+use native.Mathlib.Numerals.{add-one}
 use borrow.Author.Needs.{needs}
-use borrow.Author.Count.{below-more}
-use borrow.Author.Tests.{lt-leb, le-leb}
-use lib.ListN.{length, getD}
+use lib.ListN.{length, getD, take}
+use lib.Seq.{take-all}
 use lib.Dec.{leb}
-use Rattle.rules.specs.Limits.{maxJumps, maxRuns}
+use Rattle.rules.specs.Limits.{maxRuns}
+use Rattle.rules.specs.Model.{every}
 use Rattle.ranges.specs.Ranges.{countsRanged}
-use Rattle.ranges.proofs.Every.{every-true, every-false}
+use Rattle.ranges.proofs.Every.{every-more}
 use Rattle.ranges.proofs.counts_ranged.Statement.{statement}
 use Rattle.ranges.proofs.counts_ranged.Tie as tie
 
+module _ (counts : List ℕ) (ok : Bool) (i : ℕ) (so-far : ok ≡ every (λ (n : ℕ). leb n maxRuns) (take i counts)) where
+  one-more : i < length counts → (ok && leb (getD counts i 0) maxRuns) ≡ every (λ (n : ℕ). leb n maxRuns) (take (i + 1) counts)
+  one-more below = rw (add-one, every-more (λ (n : ℕ). leb n maxRuns) counts i below, sym so-far)
+
+  all-seen : length counts ≤ i → ok ≡ countsRanged counts
+  unfolding countsRanged
+  all-seen end = so-far ∙ ap (every (λ (n : ℕ). leb n maxRuns)) (take-all i counts end)
+
 abbrev Inv-loop : tie.InvT-loop
-Inv-loop counts i₀ i = (i ≤ maxJumps) × (length counts ≡ maxJumps) × ((k : ℕ) → k < i → getD counts k 0 ≤ maxRuns)
+Inv-loop counts ok₀ i₀ ok i = (i ≤ length counts) × (ok ≡ every (λ (n : ℕ). leb n maxRuns) (take i counts))
 
 abbrev μ-loop : tie.MeasureT-loop
-μ-loop counts i₀ i = maxJumps - i
+μ-loop counts ok₀ i₀ ok i = length counts - i
 
 loop-holds : tie.Need-loop-holds Inv-loop μ-loop
-loop-holds c = (omega arith, search needs, λ k below. absurd (not-suc-le-zero below))
+loop-holds c = (omega arith, refl)
 
-mul-if1 : tie.Need-mul-if1 Inv-loop μ-loop
-mul-if1 c = omega arith
+mul-ok : tie.Need-mul-ok Inv-loop μ-loop
+mul-ok c = search needs
 
-array-read-if1 : tie.Need-array-read-if1 Inv-loop μ-loop
-array-read-if1 c = omega arith
-
-returns : tie.Need-returns Inv-loop μ-loop
-unfolding countsRanged
-returns c =
-    let l = c .before .before .before .args .t1 in
-    let i = c .before .before .loop .i in
-    sym (every-false (λ (n : ℕ). leb n maxRuns) l i (omega arith) (lt-leb _ _ (c .if1 .taken)))
+shared-slice-read-ok : tie.Need-shared-slice-read-ok Inv-loop μ-loop
+shared-slice-read-ok c = search needs
 
 add-i : tie.Need-add-i Inv-loop μ-loop
-add-i c = omega arith
+add-i c = search needs
 
 loop-less : tie.Need-loop-less Inv-loop μ-loop
 loop-less c = omega arith
 
 loop-again : tie.Need-loop-again Inv-loop μ-loop
-loop-again c = (omega arith, c .before .before .loop .inv .1, below-more _ _ (c .before .before .loop .inv .2) (c .if1 .left))
+loop-again c = (omega arith, search (one-more, needs))
 
-returns-2 : tie.Need-returns-2 Inv-loop μ-loop
-unfolding countsRanged
-returns-2 c =
-    let l = c .before .before .args .t1 in
-    sym (every-true (λ (n : ℕ). leb n maxRuns) l (λ k below. le-leb _ _ (c .before .loop .inv .2 k (omega arith))))
+returns : tie.Need-returns Inv-loop μ-loop
+returns c = search (all-seen, needs)
 
 pub counts-ranged-spec : {M : Type 1} → statement M
 counts-ranged-spec =
@@ -58,10 +58,9 @@ counts-ranged-spec =
     Inv-loop
     μ-loop
     loop-holds
-    mul-if1
-    array-read-if1
-    returns
+    mul-ok
+    shared-slice-read-ok
     add-i
     loop-less
     loop-again
-    returns-2)
+    returns)

@@ -5,14 +5,14 @@ use Prim.Native.Nat.{ℕ}
 use lib.Dec.{eqb}
 use lib.ListN.{length}
 use borrow.Author.Needs.{needs}
-use borrow.Author.Tests.{eq-eqb, ne-eqb}
+use borrow.Author.Tests.{eq-eqb, ne-eqb, not-false}
 use Rattle.rules.specs.Limits.{emptyPayload, notRead, notForUs}
 use Rattle.rules.specs.Payload.{Bytes}
 use Rattle.rules.specs.Messages.{Station, station, decode}
 use Rattle.rules.specs.Calls.{refuses, request, message, heard, oursOrAll}
 use Rattle.message_table.specs.declared.Head.{Head}
 use Rattle.message_table.specs.Table.{isRead, targetOf, kindOf, headOf}
-use Rattle.refusal.specs.Refusals.{refusalOf, requestOf, roomRefusal, isForUs, heardBy, heard-by, refused-first, room-found, room-passed}
+use Rattle.refusal.specs.Refusals.{refusalOf, requestOf, roomRefusal, isForUs, HeadRead, heardBy, heard-by, refused-first, room-found, room-passed}
 use Rattle.refusal.proofs.message_refusal.Statement.{statement}
 use Rattle.refusal.proofs.message_refusal.Tie as tie
 
@@ -37,37 +37,34 @@ module _ (ranged : Bool) (system component : ℕ) (from : Station) (id : ℕ) (p
   unfolding heardBy
   rest none = ap refusalOf (heard-by ranged own from id p clock store reply ∙ room-passed ranged store reply _ (room-found ranged store reply (sym by ∙ none)))
 
-  empty-payload : first ≡ 0 → length p ≡ 0 → emptyPayload ≡ refusal
-  empty-payload none empty = rw (rest none, eq-eqb _ _ empty)
+  empty-payload : (size : ℕ) → first ≡ 0 → length p ≡ size → size ≡ 0 → emptyPayload ≡ refusal
+  empty-payload size none sized empty = rw (rest none, eq-eqb _ _ (sized ∙ empty))
 
-  module _ (none : first ≡ 0) (some : length p ≡ 0 → ⊥) (read : Bool) (reads : (q : Bytes) → read ≡ isRead (decode id q)) where
+  module _ (none : first ≡ 0) (some : length p ≡ 0 → ⊥) (read : Bool) (head : Head) (known : HeadRead id p read head) where
     not-read : not read ≡ true → notRead ≡ refusal
-    not-read unread = rw (rest none, ne-eqb _ _ some, (rw (reads p) at unread))
+    not-read unread = rw (rest none, ne-eqb _ _ some, (rw (known .isRead) at unread))
 
-    module _ (is : not read ≡ false) (head : Head) (heads : head ≡ headOf (decode id p)) (a b : Bool) (ours : a ≡ oursOrAll system (head .system)) (ours′ : b ≡ oursOrAll component (head .component)) where
+    module _ (is : not read ≡ false) (a b : Bool) (ours : a ≡ oursOrAll system (head .system)) (ours′ : b ≡ oursOrAll component (head .component)) where
+      heads : head ≡ headOf (decode id p)
+      heads = known .heads (not-false read is)
+
       not-for-us : not (a && b) ≡ true → notForUs ≡ refusal
-      not-for-us other = rw (rest none, ne-eqb _ _ some, (rw (reads p) at is), (rw (ours, ours′, heads) at other))
+      not-for-us other = rw (rest none, ne-eqb _ _ some, (rw (known .isRead) at is), (rw (ours, ours′, heads) at other))
 
       passes : not (a && b) ≡ false → 0 ≡ refusal
-      passes other = rw (rest none, ne-eqb _ _ some, (rw (reads p) at is), (rw (ours, ours′, heads) at other))
+      passes other = rw (rest none, ne-eqb _ _ some, (rw (known .isRead) at is), (rw (ours, ours′, heads) at other))
 
 room-refusal-requires : tie.Need-room-refusal-requires
 room-refusal-requires c κs = search needs
 
 returns : tie.Need-returns
-returns c from clock = search (earlier, needs)
+returns c from id p clock sized known = search (earlier, needs)
 
 returns-2 : tie.Need-returns-2
-returns-2 c from clock = search (empty-payload, needs)
-
-is-read-requires : tie.Need-is-read-requires
-is-read-requires c κs = search needs
+returns-2 c from id p clock sized known = search (empty-payload, needs)
 
 returns-3 : tie.Need-returns-3
-returns-3 c from clock = search (not-read, needs)
-
-head-of-requires : tie.Need-head-of-requires
-head-of-requires c κs = search needs
+returns-3 c from id p clock sized known = search (not-read, needs)
 
 ours-or-all-requires : tie.Need-ours-or-all-requires
 ours-or-all-requires c κs = search needs
@@ -76,10 +73,10 @@ ours-or-all-requires-2 : tie.Need-ours-or-all-requires-2
 ours-or-all-requires-2 c κs = search needs
 
 returns-4 : tie.Need-returns-4
-returns-4 c from clock = search (not-for-us, needs)
+returns-4 c from id p clock sized known = search (not-for-us, needs)
 
 returns-5 : tie.Need-returns-5
-returns-5 c from clock = search (passes, needs)
+returns-5 c from id p clock sized known = search (passes, needs)
 
 pub message-refusal-spec : {M : Type 1} → statement M
 message-refusal-spec =
@@ -88,9 +85,7 @@ message-refusal-spec =
     room-refusal-requires
     returns
     returns-2
-    is-read-requires
     returns-3
-    head-of-requires
     ours-or-all-requires
     ours-or-all-requires-2
     returns-4

@@ -9,17 +9,17 @@ use Rattle.upload.specs.declared.Say.the-variants.{Ack, Ask}
 use Rattle.upload.specs.declared.Turned.{Turned}
 use Prim.Native.Nat.{ℕ, _<_, _≤_}
 use Rattle.rules.specs.Limits.{accepted, noSpace, denied}
-use Rattle.upload.specs.Turns.{othersUpload, ended, withUpload, emptied, started, keeps, renews, countTurned}
+use Rattle.upload.specs.Turns.{othersUpload, ended, withUpload, emptied, started, keeps, moves, renews, countTurned}
 use borrow.Author.Needs.{needs}
 use Rattle.upload.proofs.turns.on_count.Statement.{statement}
 use Rattle.upload.proofs.turns.on_count.Tie as tie
 
 module _ (p : Plan) (from : Station) (now n size : ℕ) (b : Bool) (is : b ≡ othersUpload from (p .upload)) where
-  denies : (t : Turned) → b ≡ true → t ≡ keeps p (Ack denied 0) → t ≡ countTurned p from now n size
+  denies : (t : Turned) → b ≡ true → t ≡ keeps (Ack denied 0) → t ≡ countTurned p from now n size
   unfolding countTurned
   denies t e et = simp (← is, e, et)
 
-  too-many : (q : Plan) (t : Turned) → b ≡ false → size < n → q ≡ ended p → t ≡ keeps q (Ack noSpace 0) → t ≡ countTurned p from now n size
+  too-many : (q : Plan) (t : Turned) → b ≡ false → size < n → q ≡ ended p → t ≡ moves q (Ack noSpace 0) → t ≡ countTurned p from now n size
   unfolding countTurned
   too-many q t e more eq et = simp (← is, e, lt-ltb size n more, et, eq)
 
@@ -27,7 +27,7 @@ module _ (p : Plan) (from : Station) (now n size : ℕ) (b : Bool) (is : b ≡ o
   unfolding countTurned
   empties q t e fits none eq et = simp (← is, e, le-ltb size n fits, eq-eqb n 0 none, et, eq)
 
-  starts : (q : Plan) (t : Turned) → b ≡ false → n ≤ size → (n ≡ 0 → ⊥) → q ≡ withUpload p (Running (started from now n)) → t ≡ keeps q (Ask 0)
+  starts : (q : Plan) (t : Turned) → b ≡ false → n ≤ size → (n ≡ 0 → ⊥) → q ≡ withUpload p (Running (started from now n)) → t ≡ moves q (Ask 0)
       → t ≡ countTurned p from now n size
   unfolding countTurned
   starts q t e fits some eq et = simp (← is, e, le-ltb size n fits, ne-eqb n 0 some, et, eq)
@@ -44,8 +44,8 @@ returns c = search (denies, needs)
 ended-requires : tie.Need-ended-requires
 ended-requires c κs = search needs
 
-keeps-requires-2 : tie.Need-keeps-requires-2
-keeps-requires-2 c κs = search needs
+moves-requires : tie.Need-moves-requires
+moves-requires c κs = search needs
 
 returns-2 : tie.Need-returns-2
 returns-2 c = search (too-many, needs)
@@ -62,8 +62,8 @@ returns-3 c = search (empties, needs)
 with-upload-requires : tie.Need-with-upload-requires
 with-upload-requires c κs = search needs
 
-keeps-requires-3 : tie.Need-keeps-requires-3
-keeps-requires-3 c κs = search needs
+moves-requires-2 : tie.Need-moves-requires-2
+moves-requires-2 c κs = search needs
 
 returns-4 : tie.Need-returns-4
 returns-4 c = search (starts, needs)
@@ -76,11 +76,11 @@ on-count-spec =
     keeps-requires
     returns
     ended-requires
-    keeps-requires-2
+    moves-requires
     returns-2
     emptied-requires
     renews-requires
     returns-3
     with-upload-requires
-    keeps-requires-3
+    moves-requires-2
     returns-4)

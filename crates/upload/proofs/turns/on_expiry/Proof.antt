@@ -9,22 +9,22 @@ use Rattle.upload.specs.declared.Turned.{Turned}
 use Prim.Native.Nat.{ℕ, _<_, _≤_}
 use Rattle.rules.specs.Limits.{maxRepeats, expiryMs, cancelled}
 use Rattle.rules.specs.Model.{elapsed}
-use Rattle.upload.specs.Turns.{ended, withUpload, askedAgain, keeps, timerTurned}
+use Rattle.upload.specs.Turns.{ended, withUpload, askedAgain, keeps, moves, timerTurned}
 use borrow.Author.Needs.{needs}
 use Rattle.upload.proofs.turns.on_expiry.Statement.{statement}
 use Rattle.upload.proofs.turns.on_expiry.Tie as tie
 
 module _ (p : Plan) (r : Run) (now since : ℕ) (is : since ≡ elapsed now (r .started)) where
-  early : (t : Turned) → since < expiryMs → t ≡ keeps p Silent → t ≡ timerTurned (Running r) p now
+  early : (t : Turned) → since < expiryMs → t ≡ keeps Silent → t ≡ timerTurned (Running r) p now
   unfolding timerTurned
   early t below et = simp (← is, lt-ltb since expiryMs below, et)
 
-  asks : (q : Plan) (t : Turned) → expiryMs ≤ since → r .repeats < maxRepeats → q ≡ withUpload p (Running (askedAgain r now)) → t ≡ keeps q (Ask (r .next))
+  asks : (q : Plan) (t : Turned) → expiryMs ≤ since → r .repeats < maxRepeats → q ≡ withUpload p (Running (askedAgain r now)) → t ≡ moves q (Ask (r .next))
       → t ≡ timerTurned (Running r) p now
   unfolding timerTurned
   asks q t late few eq et = simp (← is, le-ltb since expiryMs late, lt-ltb (r .repeats) maxRepeats few, et, eq)
 
-  stops : (q : Plan) (t : Turned) → expiryMs ≤ since → maxRepeats ≤ r .repeats → q ≡ ended p → t ≡ keeps q (Ack cancelled 0) → t ≡ timerTurned (Running r) p now
+  stops : (q : Plan) (t : Turned) → expiryMs ≤ since → maxRepeats ≤ r .repeats → q ≡ ended p → t ≡ moves q (Ack cancelled 0) → t ≡ timerTurned (Running r) p now
   unfolding timerTurned
   stops q t late all eq et = simp (← is, le-ltb since expiryMs late, le-ltb (r .repeats) maxRepeats all, et, eq)
 
@@ -43,14 +43,14 @@ add-t8 c = search needs
 with-upload-requires : tie.Need-with-upload-requires
 with-upload-requires c κs = search needs
 
-keeps-requires-2 : tie.Need-keeps-requires-2
-keeps-requires-2 c κs = search needs
+moves-requires : tie.Need-moves-requires
+moves-requires c κs = search needs
 
 returns-3 : tie.Need-returns-3
 returns-3 c =
     let all = c .before .before in
     let late = all .before .before in
-    stops _ _ _ _ (late .before .elapsed .ensures) _ _ (late .if1 .left) (all .if2 .left) (c .before .ended .ensures) (c .keeps3 .ensures)
+    stops _ _ _ _ (late .before .elapsed .ensures) _ _ (late .if1 .left) (all .if2 .left) (c .before .ended .ensures) (c .moves2 .ensures)
 
 returns-2 : tie.Need-returns-2
 returns-2 c = search (asks, needs)
@@ -58,8 +58,8 @@ returns-2 c = search (asks, needs)
 ended-requires : tie.Need-ended-requires
 ended-requires c κs = search needs
 
-keeps-requires-3 : tie.Need-keeps-requires-3
-keeps-requires-3 c κs = search needs
+moves-requires-2 : tie.Need-moves-requires-2
+moves-requires-2 c κs = search needs
 
 pub on-expiry-spec : {M : Type 1} → statement M
 on-expiry-spec =
@@ -70,8 +70,8 @@ on-expiry-spec =
     returns
     add-t8
     with-upload-requires
-    keeps-requires-2
+    moves-requires
     returns-2
     ended-requires
-    keeps-requires-3
+    moves-requires-2
     returns-3)

@@ -13,7 +13,7 @@ use Rattle.upload.proofs.turns.on_timer.Statement.{statement}
 use Rattle.upload.proofs.turns.on_timer.Tie as tie
 
 module _ (p : Plan) (u : Upload) (now : ℕ) where
-  idle : (t : Turned) → u ≡ Idle → t ≡ keeps p Silent → t ≡ timerTurned u p now
+  idle : (t : Turned) → u ≡ Idle → t ≡ keeps Silent → t ≡ timerTurned u p now
   unfolding timerTurned
   idle t e et = rw (e, et)
 

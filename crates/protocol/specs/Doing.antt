@@ -1,0 +1,78 @@
+-- What a message or a timer call does, over the plans of the three kinds, the current item and the store: its effect on the state, the store after it, and the
+-- answer.
+use Prim.Native.Nat.{ℕ}
+use mathlib.Core.List.{List, [], _∷_}
+use mathlib.Core.Bool.{Bool, false, cond, _||_}
+use lib.ListN.{getD}
+use lib.Dec.{eqb}
+use Rattle.rules.specs.Limits.{flight, fence, rally, everyKind, sizeOf, accepted, unsupported, denied}
+use Rattle.rules.specs.Payload.{Bytes}
+use Rattle.rules.specs.Messages.{Station, ack}
+use Rattle.rules.specs.Calls.{Request, chooses, asksList, announces, clears, acknowledges, asksItem, brings}
+use Rattle.rules.specs.Step.{Answer, says, covered, kindOk}
+use Rattle.plan.specs.declared.Plan.{Plan}
+use Rattle.plan.specs.View.{emptyPlan}
+use Rattle.upload.specs.declared.Effect.{Effect}
+use Rattle.upload.specs.declared.Effect.the-variants.{Nothing, Renews, EmptiesAll}
+use Rattle.upload.specs.declared.Turned.{Turned}
+use Rattle.upload.specs.Turns.{TurnAndStore, emptied, countTurned, ackTurned, timerTurned, itemTurned, othersUpload, stationOf}
+use Rattle.answers.specs.declared.Handled.{Handled}
+use Rattle.answers.specs.Answered.{answerOf, Handles}
+use Rattle.shown.specs.Shown.{listAnswer, requestAnswer, chooseEffect, chooseAnswer}
+use mathlib.Core.Path.{_≡_}
+
+pub record Done : Type 0 where
+  pub effect : Effect
+  pub store : Bytes
+  pub answer : Answer
+
+abbrev pub does : Effect → Bytes → Answer → Done
+does e s a = record { effect = e; store = s; answer = a }
+
+-- the call's handler did and said that, and left the store so
+pub record DoneBy (d : Done) (s′ b b′ : Bytes) (r : Handled) : Type 0 where
+  pub handles : Handles (d .effect) (d .answer) b b′ r
+  pub store : s′ ≡ d .store
+
+-- a turn of one plan, answered to a station
+abbrev pub turns : Bytes → (kind : ℕ) → Station → Turned → Done
+turns s kind to t = does (t .effect) s (answerOf (t .say) to kind)
+
+abbrev pub itemTurns : (kind : ℕ) → Station → TurnAndStore → Done
+itemTurns kind from t = turns (t .store) kind from (t .turned)
+
+-- the plan of a kind among those of all; none, an empty one, where there is no such kind
+abbrev pub planAmong : List Plan → (kind : ℕ) → Plan
+planAmong ps kind = getD ps kind emptyPlan
+
+-- ---- clears
+
+abbrev pub othersAmong : List Plan → Station → List ℕ → Bool
+othersAmong ps from [] = false
+othersAmong ps from (kind ∷ ks) = othersUpload from (planAmong ps kind .upload) || othersAmong ps from ks
+
+abbrev pub clearEffect : List Plan → (kind : ℕ) → Effect
+clearEffect ps kind = cond (eqb kind everyKind) EmptiesAll (Renews (emptied (planAmong ps kind)))
+
+unfoldable pub clearDone : List Plan → Bytes → Station → (kind : ℕ) → Done
+clearDone ps s from kind =
+    cond (othersAmong ps from (covered kind)) (does Nothing s (says (ack from denied kind 0)))
+    (does (clearEffect ps kind) s (says (ack from accepted kind 0)))
+
+-- ---- every message of a kind that it may have
+
+unfoldable pub knownDone : List Plan → (current : ℕ) → Bytes → Station → (now kind : ℕ) → Request → Done
+knownDone ps current s from now kind (chooses seq) =
+    does (chooseEffect (planAmong ps flight) seq) s (chooseAnswer (planAmong ps flight) (planAmong ps fence) (planAmong ps rally) seq)
+knownDone ps current s from now kind asksList = does Nothing s (listAnswer (planAmong ps kind) from kind)
+knownDone ps current s from now kind (announces n) = turns s kind from (countTurned (planAmong ps kind) from now n (sizeOf kind))
+knownDone ps current s from now kind clears = clearDone ps s from kind
+knownDone ps current s from now kind (acknowledges result) = turns s kind from (ackTurned (planAmong ps kind) from result)
+knownDone ps current s from now kind (asksItem seq) = does Nothing s (requestAnswer (planAmong ps kind) current s from kind seq)
+knownDone ps current s from now kind (brings item) = itemTurns kind from (itemTurned s kind (planAmong ps kind .upload) (planAmong ps kind) from now item)
+
+unfoldable pub messageDone : List Plan → (current : ℕ) → Bytes → Station → (now kind : ℕ) → Request → Done
+messageDone ps current s from now kind r = cond (kindOk kind r) (knownDone ps current s from now kind r) (does Nothing s (says (ack from unsupported kind 0)))
+
+unfoldable pub timerDone : Plan → Bytes → (now kind : ℕ) → Done
+timerDone p s now kind = turns s kind (stationOf (p .upload)) (timerTurned (p .upload) p now)

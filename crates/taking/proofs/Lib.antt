@@ -1,0 +1,2 @@
+-- A law that the proofs of judging use.
+mod Room

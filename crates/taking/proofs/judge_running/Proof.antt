@@ -1,0 +1,64 @@
+-- By the tests on the way to each return. Every test decides one `cond` of `judgedAs`.
+use mathlib.Core.Path.{_≡_}
+use mathlib.Core.Bool.{Bool, true, false, not}
+use Prim.Native.Nat.{ℕ}
+use borrow.Author.Tests.{eq-eqb, ne-eqb}
+use Rattle.rules.specs.Limits.{accepted, denied}
+use Rattle.rules.specs.Payload.{Bytes}
+use Rattle.rules.specs.Messages.{Station, Item, sameStation}
+use Rattle.plan.specs.declared.Plan.{Plan}
+use Rattle.plan.specs.declared.Run.{Run}
+use Rattle.plan.specs.declared.Upload.the-variants.{Running}
+use Rattle.plan.specs.View.{stationIn}
+use Rattle.upload.specs.Turns.{itemVerdict}
+use Rattle.taking.specs.declared.Judged.the-variants.{Refused, OutOfTurn, Invalid, Valid}
+use Rattle.taking.specs.Judging.{judgedAs}
+use borrow.Author.Needs.{needs}
+use Rattle.taking.proofs.judge_running.Statement.{statement}
+use Rattle.taking.proofs.judge_running.Tie as tie
+
+module _ (s : Bytes) (kind : ℕ) (p : Plan) (r : Run) (from : Station) (item : Item) (b : Bool) (is : b ≡ sameStation from (stationIn r)) where
+  denies : not b ≡ true → Refused denied ≡ judgedAs s kind (Running r) p from item
+  unfolding judgedAs
+  denies e = simp (← is, e)
+
+  out-of-turn : not b ≡ false → (item .seq ≡ r .next → ⊥) → OutOfTurn (r .next) ≡ judgedAs s kind (Running r) p from item
+  unfolding judgedAs
+  out-of-turn e other = simp (← is, e, ne-eqb (item .seq) (r .next) other)
+
+  fails : (result : ℕ) → not b ≡ false → item .seq ≡ r .next → result ≡ itemVerdict s kind p r item → (result ≡ accepted → ⊥)
+      → Invalid result ≡ judgedAs s kind (Running r) p from item
+  unfolding judgedAs
+  fails result e own er bad = simp (← is, e, eq-eqb (item .seq) (r .next) own, ← er, ne-eqb result accepted bad)
+
+  passes : (result : ℕ) → not b ≡ false → item .seq ≡ r .next → result ≡ itemVerdict s kind p r item → result ≡ accepted
+      → Valid r ≡ judgedAs s kind (Running r) p from item
+  unfolding judgedAs
+  passes result e own er good = simp (← is, e, eq-eqb (item .seq) (r .next) own, ← er, eq-eqb result accepted good)
+
+is-from-requires : tie.Need-is-from-requires
+is-from-requires c κs = search needs
+
+returns : tie.Need-returns
+returns c = search (denies, needs)
+
+returns-2 : tie.Need-returns-2
+returns-2 c =
+    let own = c .before .before .before in
+    out-of-turn _ _ _ _ _ _ _ (own .before .is-from .ensures) (own .if1 .left) (c .if2 .taken)
+
+result-of-requires : tie.Need-result-of-requires
+result-of-requires c κs = search needs
+
+returns-3 : tie.Need-returns-3
+returns-3 c =
+    let turn = c .before .before .before in
+    let own = turn .before .before .before in
+    fails _ _ _ _ _ _ _ (own .before .is-from .ensures) _ (own .if1 .left) (turn .if2 .left) (c .before .result-of .ensures) (c .if3 .taken)
+
+returns-4 : tie.Need-returns-4
+returns-4 c = search (passes, needs)
+
+pub judge-running-spec : {M : Type 1} → statement M
+judge-running-spec =
+    tie.close (tie.spec is-from-requires returns returns-2 result-of-requires returns-3 returns-4)
