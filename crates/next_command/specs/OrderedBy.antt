@@ -1,4 +1,4 @@
--- What a "command done" call promises: the rules' answer, and the state that shows what the rules' advance shows.
+-- The state after a "command done" call shows what the rules' advance shows, with the rules' answer.
 use Prim.Native.Nat.{ℕ}
 use mathlib.Core.Path.{_≡_, refl, ap}
 use mathlib.Core.List.{List}
@@ -7,9 +7,9 @@ use Rattle.rules.specs.Payload.{Bytes}
 use Rattle.rules.specs.Model.{Model}
 use Rattle.rules.specs.NextCommand.{answerOf, reach, found, nowhere}
 use Rattle.rules.specs.NextCommand as rules
+use Rattle.command.specs.declared.Command.{Command}
 use Rattle.plan.specs.declared.State.{State}
 use Rattle.plan.specs.View.{view}
-use Rattle.next_command.specs.declared.Ordered.{Ordered}
 use Rattle.next_command.specs.declared.find.Found.{Found}
 use Rattle.plan_search.specs.Orders.{orderOf}
 use Rattle.next_command.specs.Finding.{foundOf}
@@ -18,21 +18,14 @@ use Rattle.next_command.specs.Finding.{foundOf}
 abbrev afterDone : Model → Model
 afterDone m = record { shown = rules.advance (m .shown); uploads = m .uploads }
 
-pub record OrderedBy (st : State) (store : Bytes) (r : Ordered) : Type 0 where
-  pub answer : orderOf (r .command) ≡ answerOf (rules.next (view st store .shown))
-  pub shown : view (r .state) store ≡ afterDone (view st store)
-  pub plans : r .state .plans ≡ st .plans
+-- state st′ and a command are what the call on st gives
+pub record OrderedBy (st : State) (store : Bytes) (st′ : State) (command : Command) : Type 0 where
+  pub answer : orderOf command ≡ answerOf (rules.next (view st store .shown))
+  pub shown : view st′ store ≡ afterDone (view st store)
+  pub plans : st′ .plans ≡ st .plans
 
 -- "The first item that is no jump becomes current and begun"; otherwise the state stays
-unfoldable pub reachedAs : State → Found → Ordered
-reachedAs st f =
-    record {
-      state = cond (f .stands) (record { plans = st .plans; current = f .n; begun = true; counts = f .counts }) st;
-      command = f .command;
-    }
-
--- the state with another place and counts, or as it was
-abbrev reachedState : State → (stands : Bool) (n : ℕ) (counts : List ℕ) → State
+abbrev pub reachedState : State → (stands : Bool) (n : ℕ) (counts : List ℕ) → State
 reachedState st stands n counts = cond stands (record { plans = st .plans; current = n; begun = true; counts = counts }) st
 
 module _ (st : State) (store : Bytes) (n : ℕ) (counts : List ℕ) (c : rules.Command) where
@@ -50,8 +43,9 @@ module _ (st : State) (store : Bytes) (n : ℕ) (counts : List ℕ) (c : rules.C
   same-plans true = refl
   same-plans false = refl
 
-pub reaches : (st : State) (store : Bytes) (f : Found) → foundOf f ≡ rules.next (view st store .shown) → OrderedBy st store (reachedAs st f)
-unfolding foundOf reachedAs
+pub reaches : (st : State) (store : Bytes) (f : Found) → foundOf f ≡ rules.next (view st store .shown)
+    → OrderedBy st store (reachedState st (f .stands) (f .n) (f .counts)) (f .command)
+unfolding foundOf
 reaches st store f e =
     let c = orderOf (f .command) in
     record {

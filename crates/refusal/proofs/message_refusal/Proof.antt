@@ -40,19 +40,22 @@ module _ (ranged : Bool) (system component : ℕ) (from : Station) (id : ℕ) (p
   empty-payload : (size : ℕ) → first ≡ 0 → length p ≡ size → size ≡ 0 → emptyPayload ≡ refusal
   empty-payload size none sized empty = rw (rest none, eq-eqb _ _ (sized ∙ empty))
 
-  module _ (none : first ≡ 0) (some : length p ≡ 0 → ⊥) (read : Bool) (head : Head) (known : HeadRead id p read head) where
+  module _ (none : first ≡ 0) (size : ℕ) (sized : length p ≡ size) (some : size ≡ 0 → ⊥) (read : Bool) (head : Head) (known : HeadRead id p read head) where
+    not-empty : eqb (length p) 0 ≡ false
+    not-empty = ne-eqb _ _ (λ e. some (sym sized ∙ e))
+
     not-read : not read ≡ true → notRead ≡ refusal
-    not-read unread = rw (rest none, ne-eqb _ _ some, (rw (known .isRead) at unread))
+    not-read unread = rw (rest none, not-empty, (rw (known .isRead) at unread))
 
     module _ (is : not read ≡ false) (a b : Bool) (ours : a ≡ oursOrAll system (head .system)) (ours′ : b ≡ oursOrAll component (head .component)) where
       heads : head ≡ headOf (decode id p)
       heads = known .heads (not-false read is)
 
       not-for-us : not (a && b) ≡ true → notForUs ≡ refusal
-      not-for-us other = rw (rest none, ne-eqb _ _ some, (rw (known .isRead) at is), (rw (ours, ours′, heads) at other))
+      not-for-us other = rw (rest none, not-empty, (rw (known .isRead) at is), (rw (ours, ours′, heads) at other))
 
       passes : not (a && b) ≡ false → 0 ≡ refusal
-      passes other = rw (rest none, ne-eqb _ _ some, (rw (known .isRead) at is), (rw (ours, ours′, heads) at other))
+      passes other = rw (rest none, not-empty, (rw (known .isRead) at is), (rw (ours, ours′, heads) at other))
 
 room-refusal-requires : tie.Need-room-refusal-requires
 room-refusal-requires c κs = search needs
