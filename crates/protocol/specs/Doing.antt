@@ -1,6 +1,7 @@
 -- What a message or a timer call does, over the plans of the three kinds, the current item and the store: its effect on the state, the store after it, and the
 -- answer.
 use Prim.Native.Nat.{ℕ}
+use mathlib.Core.Path.{_≡_}
 use mathlib.Core.List.{List, [], _∷_}
 use mathlib.Core.Bool.{Bool, false, cond, _||_}
 use lib.ListN.{getD}
@@ -9,7 +10,7 @@ use Rattle.rules.specs.Limits.{flight, fence, rally, everyKind, sizeOf, accepte
 use Rattle.rules.specs.Payload.{Bytes}
 use Rattle.rules.specs.Messages.{Station, ack}
 use Rattle.rules.specs.Calls.{Request, chooses, asksList, announces, clears, acknowledges, asksItem, brings}
-use Rattle.rules.specs.Step.{Answer, says, covered, kindOk}
+use Rattle.rules.specs.Step.{Answer, silent, says, covered, kindOk}
 use Rattle.plan.specs.declared.Plan.{Plan}
 use Rattle.plan.specs.View.{emptyPlan}
 use Rattle.upload.specs.declared.Effect.{Effect}
@@ -19,7 +20,6 @@ use Rattle.upload.specs.Turns.{TurnAndStore, emptied, countTurned, ackTurned, t
 use Rattle.answers.specs.declared.Handled.{Handled}
 use Rattle.answers.specs.Answered.{answerOf, Handles}
 use Rattle.shown.specs.Shown.{listAnswer, requestAnswer, chooseEffect, chooseAnswer}
-use mathlib.Core.Path.{_≡_}
 
 pub record Done : Type 0 where
   pub effect : Effect
@@ -61,15 +61,26 @@ clearDone ps s from kind =
 
 -- ---- every message of a kind that it may have
 
+-- the messages that speak of the plan of a kind; the others leave it
+unfoldable pub planDone : Plan → (current : ℕ) → Bytes → Station → (now kind : ℕ) → Request → Done
+planDone p current s from now kind (chooses seq) = does Nothing s silent
+planDone p current s from now kind asksList = does Nothing s (listAnswer p from kind)
+planDone p current s from now kind (announces n) = turns s kind from (countTurned p from now n (sizeOf kind))
+planDone p current s from now kind clears = does Nothing s silent
+planDone p current s from now kind (acknowledges result) = turns s kind from (ackTurned p from result)
+planDone p current s from now kind (asksItem seq) = does Nothing s (requestAnswer p current s from kind seq)
+planDone p current s from now kind (brings item) = itemTurns kind from (itemTurned s kind (p .upload) p from now item)
+
+-- SET_CURRENT speaks of the flight plan and of all numbers, CLEAR_ALL of all plans
 unfoldable pub knownDone : List Plan → (current : ℕ) → Bytes → Station → (now kind : ℕ) → Request → Done
 knownDone ps current s from now kind (chooses seq) =
     does (chooseEffect (planAmong ps flight) seq) s (chooseAnswer (planAmong ps flight) (planAmong ps fence) (planAmong ps rally) seq)
-knownDone ps current s from now kind asksList = does Nothing s (listAnswer (planAmong ps kind) from kind)
-knownDone ps current s from now kind (announces n) = turns s kind from (countTurned (planAmong ps kind) from now n (sizeOf kind))
+knownDone ps current s from now kind asksList = planDone (planAmong ps kind) current s from now kind asksList
+knownDone ps current s from now kind (announces n) = planDone (planAmong ps kind) current s from now kind (announces n)
 knownDone ps current s from now kind clears = clearDone ps s from kind
-knownDone ps current s from now kind (acknowledges result) = turns s kind from (ackTurned (planAmong ps kind) from result)
-knownDone ps current s from now kind (asksItem seq) = does Nothing s (requestAnswer (planAmong ps kind) current s from kind seq)
-knownDone ps current s from now kind (brings item) = itemTurns kind from (itemTurned s kind (planAmong ps kind .upload) (planAmong ps kind) from now item)
+knownDone ps current s from now kind (acknowledges result) = planDone (planAmong ps kind) current s from now kind (acknowledges result)
+knownDone ps current s from now kind (asksItem seq) = planDone (planAmong ps kind) current s from now kind (asksItem seq)
+knownDone ps current s from now kind (brings item) = planDone (planAmong ps kind) current s from now kind (brings item)
 
 unfoldable pub messageDone : List Plan → (current : ℕ) → Bytes → Station → (now kind : ℕ) → Request → Done
 messageDone ps current s from now kind r = cond (kindOk kind r) (knownDone ps current s from now kind r) (does Nothing s (says (ack from unsupported kind 0)))

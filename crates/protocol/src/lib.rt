@@ -1,30 +1,41 @@
-// One message call that is not refused: kind first, then what its message does.
+// One message call that is not refused: kind first, then what its message does to one plan; and a timer call. The state itself stays with the public call: what
+// comes out is the effect on it.
+mod clears;
+
 ghost use mathlib.Core.Path.{_≡_};
 ghost use mathlib.Core.Bool.{true};
+ghost use mathlib.Core.List.{[], _∷_};
 ghost use Prim.Native.Nat.{_≤_};
 ghost use lib.ListN.{length};
-ghost use Rattle.rules.specs.Limits.{storeBytes, replyBytesMin};
+ghost use Rattle.rules.specs.Limits.{rally, storeBytes, replyBytesMin};
 ghost use Rattle.rules.specs.Payload.{Bytes};
+ghost use Rattle.rules.specs.Layouts.{setCurrentId, clearAllId, ackId};
 ghost use Rattle.rules.specs.Messages.{station, decode};
 ghost use Rattle.rules.specs.Step.{kindOk};
-ghost use Rattle.message_table.specs.Table.{isRead, kindOf};
-ghost use Rattle.ranges.specs.Ranges.{stateRanged};
+ghost use Rattle.message_table.specs.Table.{isRead};
+ghost use Rattle.ranges.specs.Ranges.{plansRanged};
+ghost use Rattle.ranges.specs.Ranged.{PlanRanges};
 ghost use Rattle.refusal.specs.Refusals.{requestOf};
-ghost use Rattle.states.specs.Whole.{messageDone};
-ghost use Rattle.answers.specs.Answered.{Handled};
-use answers::Served;
-use answers::say::ack;
+ghost use Rattle.answers.specs.Answered.{Handles};
+ghost use Rattle.protocol.specs.Doing.{DoneBy, planAmong, knownDone, planDone, messageDone, timerDone};
+use answers::Handled;
+use answers::ack;
+use answers::only;
+use answers::told;
+use clears::clear;
 use limits::EVERY_KIND;
+use limits::FENCE;
+use limits::FLIGHT;
 use limits::RALLY;
 use limits::UNSUPPORTED;
-use messages::on_ack;
-use messages::on_clear;
-use messages::on_count;
-use messages::on_item;
-use plan::State;
-use shown::on_list;
-use shown::on_request;
-use shown::on_set_current;
+use places::size_of;
+use plan::Plan;
+use plan::Upload;
+use taking::take_item;
+use upload::turns::on_ack;
+use upload::turns::on_count;
+use upload::turns::on_timer;
+use upload::uploads::station_of;
 use wire::ACK_ID;
 use wire::CLEAR_ALL_ID;
 use wire::COUNT_ID;
@@ -43,54 +54,111 @@ fn kind_ok(id: u32, kind: u8) -> bool
     }
 }
 
-pub fn answer(
-    state: State,
+// The plan of a kind; an empty one above the last kind.
+fn plan_of(flight: Plan, fence: Plan, rally: Plan, kind: u8) -> Plan
+    ensures { λ r. ⌜ r ≡ planAmong (flight ∷ fence ∷ rally ∷ []) kind ⌝ }
+{
+    match kind {
+        FLIGHT => flight,
+        FENCE => fence,
+        RALLY => rally,
+        _ => Plan {
+            len: 0,
+            half: false,
+            number: 0,
+            upload: Upload::Idle,
+        },
+    }
+}
+
+// The messages that speak of the plan of a kind: REQUEST_LIST, COUNT, REQUEST_INT and ITEM_INT.
+fn turn(
+    plan: Plan,
+    current: u16,
     store: &mut [u8],
     reply: &mut [u8],
+    kind: u8,
     system: u8,
     component: u8,
     id: u32,
-    payload: &[u8],
+    own: &[u8],
     clock: u32,
-) -> Served
-    requires { ⌜ (stateRanged state ≡ true) × (storeBytes ≤ length (now store)) × (replyBytesMin ≤ length (now reply)) × (isRead (decode id (now payload)) ≡ true) ⌝ }
-    ensures { λ r. ⌜ Handled (messageDone state (now (store .entry)) (station system component) clock (kindOf (decode id (now (payload .entry)))) (requestOf (decode id (now (payload .entry))))) (now (store .exit)) (now (reply .entry)) (now (reply .exit)) r ⌝ }
+) -> Handled
+    requires { ⌜ (kind ≤ rally) × PlanRanges kind plan × (storeBytes ≤ length (now store)) × (replyBytesMin ≤ length (now reply)) ⌝ }
+    requires { ⌜ (isRead (decode id (now own)) ≡ true) × (id ≡ setCurrentId → ⊥) × (id ≡ clearAllId → ⊥) × (id ≡ ackId → ⊥) ⌝ }
+    ensures { λ r. ⌜ DoneBy (planDone plan current (now (store .entry)) (station system component) clock kind (requestOf (decode id (now (own .entry))))) (now (store .exit)) (now (reply .entry)) (now (reply .exit)) r ⌝ }
 {
-    let head = wire::head_of(id, payload);
-    let kind = head.kind;
-    if !kind_ok(id, kind) {
-        let said = ack(UNSUPPORTED, kind, 0, system, component, reply);
-        return Served {
-            state,
-            outcome: said.outcome,
-            id: said.id,
-            len: said.len,
-        };
-    }
     match id {
-        SET_CURRENT_ID => {
-            let m = wire::read_set_current(payload);
-            on_set_current(state, m.seq, reply)
-        }
-        REQUEST_LIST_ID => on_list(state, kind, system, component, reply),
+        REQUEST_LIST_ID => only(shown::list(plan, kind, system, component, reply)),
         COUNT_ID => {
-            let m = wire::read_count(payload);
-            on_count(state, kind, m.count, system, component, clock, reply)
-        }
-        CLEAR_ALL_ID => on_clear(state, kind, system, component, reply),
-        ACK_ID => {
-            let m = wire::read_ack(payload);
-            on_ack(state, kind, m.result, system, component)
+            let m = wire::read_count(own);
+            let turned = on_count(plan, system, component, clock, m.count, size_of(kind));
+            told(turned, kind, system, component, reply)
         }
         REQUEST_INT_ID => {
-            let m = wire::read_request_int(payload);
-            on_request(state, store, kind, m.seq, system, component, reply)
+            let m = wire::read_request_int(own);
+            only(shown::request(plan, current, store, kind, m.seq, system, component, reply))
         }
         // ITEM_INT is the only other message that is read here.
         _ => {
-            let m = wire::read_item_int(payload);
+            let m = wire::read_item_int(own);
             let item = m.item;
-            on_item(state, store, kind, item, system, component, clock, reply)
+            let turned = take_item(plan, store, kind, system, component, clock, item);
+            told(turned, kind, system, component, reply)
         }
     }
+}
+
+// A message of the kinds' plans and the current item, from a station.
+pub fn answer(
+    flight: Plan,
+    fence: Plan,
+    rally: Plan,
+    current: u16,
+    store: &mut [u8],
+    reply: &mut [u8],
+    kind: u8,
+    system: u8,
+    component: u8,
+    id: u32,
+    own: &[u8],
+    clock: u32,
+) -> Handled
+    requires { ⌜ (plansRanged flight fence rally ≡ true) × (storeBytes ≤ length (now store)) × (replyBytesMin ≤ length (now reply)) × (isRead (decode id (now own)) ≡ true) ⌝ }
+    ensures { λ r. ⌜ DoneBy (messageDone (flight ∷ fence ∷ rally ∷ []) current (now (store .entry)) (station system component) clock kind (requestOf (decode id (now (own .entry))))) (now (store .exit)) (now (reply .entry)) (now (reply .exit)) r ⌝ }
+{
+    if !kind_ok(id, kind) {
+        return only(ack(UNSUPPORTED, kind, 0, system, component, reply));
+    }
+    match id {
+        SET_CURRENT_ID => {
+            let m = wire::read_set_current(own);
+            shown::set_current(flight, fence, rally, m.seq, reply)
+        }
+        CLEAR_ALL_ID => clear(flight, fence, rally, kind, system, component, reply),
+        // An ACK says nothing back.
+        ACK_ID => {
+            let m = wire::read_ack(own);
+            let plan = plan_of(flight, fence, rally, kind);
+            let turned = on_ack(plan, system, component, m.result);
+            told(turned, kind, system, component, reply)
+        }
+        _ => {
+            let plan = plan_of(flight, fence, rally, kind);
+            turn(
+                plan, current, store, reply, kind, system, component, id, own, clock,
+            )
+        }
+    }
+}
+
+// A timer call of a kind's plan: its reply goes to the upload's station.
+pub fn expire(plan: Plan, kind: u8, clock: u32, reply: &mut [u8]) -> Handled
+    requires { ⌜ replyBytesMin ≤ length (now reply) ⌝ }
+    ensures { λ r. ⌜ ((store : Bytes) → Handles (timerDone plan store clock kind .effect) (timerDone plan store clock kind .answer) (now (reply .entry)) (now (reply .exit)) r) ⌝ }
+{
+    let held = plan.upload;
+    let to = station_of(held);
+    let turned = on_timer(plan, clock);
+    told(turned, kind, to.system, to.component, reply)
 }
