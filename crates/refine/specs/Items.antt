@@ -31,8 +31,9 @@ use Rattle.places.specs.Writes.{putAt, Apart, otherHalf, otherKind, beyond, ite
 use Rattle.plan.specs.View.{planOf, planIn, runIn, uploadIn, view, stationIn}
 use Rattle.upload.specs.declared.Say.{Say}
 use Rattle.upload.specs.declared.Say.the-variants.{Ack, Ask}
-use Rattle.upload.specs.Turns.{withUpload, ended, replaced, oneMore, keeps, renews, TurnAndStore, turnWith, validItemTurned, itemVerdict, itemTurned}
-use Rattle.states.specs.Whole.{answerOf, turns, itemDone}
+use Rattle.upload.specs.Turns.{withUpload, ended, replaced, oneMore, keeps, moves, renews, TurnAndStore, turnWith, validItemTurned, itemVerdict, itemTurned}
+use Rattle.answers.specs.Answered.{answerOf}
+use Rattle.refine.specs.After.{afterTurn, afterItem}
 use Rattle.refine.specs.Views.{plan-shown, upload-shown, length-shown, view-upload, view-renewed}
 use Rattle.refine.specs.Turned.{Agree, kept, ends, runs}
 
@@ -149,7 +150,7 @@ module _ (st : State) (s : Bytes) (long : storeBytes ≤ length s) (ranged : inR
 
     -- one item taken
     valid-more :
-        Agree (turns st s′ k from (keeps (withUpload (planOf st k) (Running (oneMore r now))) (Ask (r .next + 1))))
+        Agree (afterTurn st s′ k from (moves (withUpload (planOf st k) (Running (oneMore r now))) (Ask (r .next + 1))))
         (record {
           model =
               record {
@@ -164,7 +165,7 @@ module _ (st : State) (s : Bytes) (long : storeBytes ≤ length s) (ranged : inR
     valid-more =
         record {
           model =
-              view-upload st s′ three k (Running (oneMore r now)) (Ask (r .next + 1)) known
+              view-upload st s′ three k (Running (oneMore r now)) known
               ∙ ap
               (λ (m : Model). record { shown = m .shown; uploads = set (m .uploads) k (running (runIn s′ (not (planOf st k .half)) k (oneMore r now))) })
               view-stays
@@ -182,13 +183,13 @@ module _ (st : State) (s : Bytes) (long : storeBytes ≤ length s) (ranged : inR
     -- the last one: the plan is replaced
     valid-last :
         r .next + 1 ≡ r .count
-        → Agree (turns st s′ k from (renews (replaced (planOf st k) (r .count)) (Ack accepted (nextNumber (planOf st k .number)))))
+        → Agree (afterTurn st s′ k from (renews (replaced (planOf st k) (r .count)) (Ack accepted (nextNumber (planOf st k .number)))))
         (rule.replaced (view st s) from k (whole run (itemOf item)))
     unfolding uploadIn model.put
     valid-last last =
         record {
           model =
-              view-renewed st s′ three k (replaced (planOf st k) (r .count)) (Ack accepted (nextNumber (planOf st k .number))) known
+              view-renewed st s′ three k (replaced (planOf st k) (r .count)) known
               ∙ ap
               (λ (m : Model). record { shown = withPlan k (planIn s′ k (replaced (planOf st k) (r .count))) (m .shown); uploads = set (m .uploads) k idle })
               view-stays
@@ -202,33 +203,33 @@ module _ (st : State) (s : Bytes) (long : storeBytes ≤ length s) (ranged : inR
         }
 
     ends-after : (say : Say) (a : Answer) → answerOf say from k ≡ a
-        → Agree (turns st s′ k from (keeps (ended (planOf st k)) say)) (record { model = record { shown = view st s .shown; uploads = set (view st s .uploads) k idle }; answer = a })
+        → Agree (afterTurn st s′ k from (moves (ended (planOf st k)) say)) (record { model = record { shown = view st s .shown; uploads = set (view st s .uploads) k idle }; answer = a })
     ends-after say a e =
         let after = ends st s′ three k known from say a e in
         record { model = after .model ∙ ap (λ (m : Model). record { shown = m .shown; uploads = set (m .uploads) k idle }) view-stays; answer = after .answer }
 
-    valid-agrees : Agree (itemDone st k from (validItemTurned s′ k (planOf st k) r now)) (onValidItem (view st s) from now k run (itemOf item))
+    valid-agrees : Agree (afterItem st k from (validItemTurned s′ k (planOf st k) r now)) (onValidItem (view st s) from now k run (itemOf item))
     unfolding validItemTurned onValidItem
     valid-agrees =
         rw next-is
-        (either₂ (λ (t : TurnAndStore) (m : Stepped). Agree (itemDone st k from t) m) (not (eqb (r .next + 1) (r .count))) (λ t. valid-more)
+        (either₂ (λ (t : TurnAndStore) (m : Stepped). Agree (afterItem st k from t) m) (not (eqb (r .next + 1) (r .count))) (λ t. valid-more)
         (λ last. at-last (eqb-true (r .next + 1) (r .count) (not-false (eqb (r .next + 1) (r .count)) last))))
       where
         at-last :
             r .next + 1 ≡ r .count
             → Agree
-            (itemDone st k from
+            (afterItem st k from
             (cond (wholeOk k (itemsIn s′ (not (planOf st k .half)) k (r .count)))
             (turnWith (renews (replaced (planOf st k) (r .count)) (Ack accepted (nextNumber (planOf st k .number)))) s′)
-            (turnWith (keeps (ended (planOf st k)) (Ack invalid 0)) s′)))
+            (turnWith (moves (ended (planOf st k)) (Ack invalid 0)) s′)))
             (cond (wholeOk k (whole run (itemOf item))) (rule.replaced (view st s) from k (whole run (itemOf item)))
             (record { model = record { shown = view st s .shown; uploads = set (view st s .uploads) k idle }; answer = acks from invalid k }))
         at-last last =
             rw (all-taken last)
-            (either₂ (λ (t : TurnAndStore) (m : Stepped). Agree (itemDone st k from t) m) (wholeOk k (whole run (itemOf item))) (λ t. valid-last last)
+            (either₂ (λ (t : TurnAndStore) (m : Stepped). Agree (afterItem st k from t) m) (wholeOk k (whole run (itemOf item))) (λ t. valid-last last)
             (λ t. ends-after (Ack invalid 0) (acks from invalid k) refl))
 
-    item-runs : Agree (itemDone st k from (itemTurned s k (Running r) (planOf st k) from now item)) (onItem (running run) (view st s) from now k item)
+    item-runs : Agree (afterItem st k from (itemTurned s k (Running r) (planOf st k) from now item)) (onItem (running run) (view st s) from now k item)
     unfolding itemTurned onItem
     item-runs =
         rw next-is
@@ -239,17 +240,17 @@ module _ (st : State) (s : Bytes) (long : storeBytes ≤ length s) (ranged : inR
         (λ t. valid-agrees))))
       where
         Both : TurnAndStore → Stepped → Type 0
-        Both t m = Agree (itemDone st k from t) m
+        Both t m = Agree (afterItem st k from t) m
 
 -- an item of a known kind
 pub item-agrees :
     (st : State) (s : Bytes) → length (st .plans) ≡ length kinds → storeBytes ≤ length s → inRange (view st s) ≡ true → (k : ℕ) → isKnown k ≡ true
     → (from : Station) (now : ℕ) (item : Item)
-    → Agree (itemDone st k from (itemTurned s k (planOf st k .upload) (planOf st k) from now item)) (onItem (model.uploadOf (view st s) k) (view st s) from now k item)
+    → Agree (afterItem st k from (itemTurned s k (planOf st k .upload) (planOf st k) from now item)) (onItem (model.uploadOf (view st s) k) (view st s) from now k item)
 unfolding itemTurned onItem uploadIn
 item-agrees st s three long ranged k known from now item = rw (upload-shown st s k known) (by (planOf st k .upload) refl)
   where
     by : (u : Upload) → planOf st k .upload ≡ u
-        → Agree (itemDone st k from (itemTurned s k u (planOf st k) from now item)) (onItem (uploadIn s (not (planOf st k .half)) k u) (view st s) from now k item)
+        → Agree (afterItem st k from (itemTurned s k u (planOf st k) from now item)) (onItem (uploadIn s (not (planOf st k .half)) k u) (view st s) from now k item)
     by Idle e = kept st s three k known from (Ack invalidSequence 0) (acks from invalidSequence k) refl
     by (Running r) e = item-runs st s long ranged k known r e item three from now

@@ -3,35 +3,36 @@ use Prim.Native.Nat.{ℕ, _≤_, _<_}
 use native.Mathlib.Omega.{arith}
 use mathlib.Core.Path.{_≡_, refl, sym, ap, ap₂, _∙_}
 use mathlib.Core.List.{List, [], _∷_}
-use mathlib.Core.Bool.{Bool, true, false, not, cond, _&&_, _||_}
+use mathlib.Core.Bool.{Bool, true, false, not, cond, _||_}
 use lib.ListN.{length, getD, length-set, List·getD-eq-default}
 use lib.Dec.{eqb, ltb}
 use borrow.Author.Tests.{ltb-true, leb-false}
-use Rattle.rules.specs.Limits.{flight, fence, rally, kinds, storeBytes, accepted}
+use Rattle.rules.specs.Limits.{flight, fence, rally, kinds, everyKind, storeBytes}
 use Rattle.rules.specs.Payload.{Bytes}
-use Rattle.rules.specs.Messages.{Station, count, itemInt, itemIn}
+use Rattle.rules.specs.Messages.{Station, current, count, itemInt, itemIn}
 use Rattle.rules.specs.Model as model
 use Rattle.rules.specs.Model.{Model, idle, every, isOthers, isOwn, shownNumber, choose, inRange}
 use Rattle.rules.specs.Calls.{Request, chooses, asksList, announces, clears, acknowledges, asksItem, brings, isKnown}
-use Rattle.rules.specs.Step.{says, silent, currentField, idleAt, covered, anyOthers, onClear, onList, onRequest, onSetCurrent, onKnown, kindOk, onMessage, onAck}
-use Rattle.rule_laws.specs.Tests.{both, either, either₂}
+use Rattle.rules.specs.Step.{Stepped, Answer, says, silent, currentField, refusalText, idleAt, covered, anyOthers, onClear, onList, onRequest, onSetCurrent, onKnown, kindOk, onMessage, onAck}
+use Rattle.rule_laws.specs.Tests.{both, either₂}
 use Rattle.rule_laws.specs.Kinds.{covered-known}
 use Rattle.plan.specs.declared.State.{State}
-use Rattle.plan.specs.declared.Plan.{Plan}
-use Rattle.plan.specs.declared.Upload.{Upload}
 use Rattle.places.specs.Places.{itemAt, items-at}
 use Rattle.plan.specs.View.{emptyPlan, planOf, view}
 use Rattle.upload.specs.declared.Say.the-variants.{Silent}
-use Rattle.upload.specs.declared.Turned.{Turned}
-use Rattle.upload.specs.Turns.{emptied, renews, othersUpload, ackTurned, ownUpload, keeps, ended}
-use Rattle.states.specs.Whole.{answerOf, turnedState, turns, clearedState, othersAmong, clearDone, listDone, requestDone, chosenState, chooseDone, knownDone, messageDone}
-use Rattle.refine.specs.Views.{plan-shown, upload-shown, length-shown, same-state}
+use Rattle.upload.specs.declared.Effect.the-variants.{Nothing, Renews, EmptiesAll, Chooses}
+use Rattle.upload.specs.Turns.{emptied, othersUpload, ackTurned, ownUpload, keeps}
+use Rattle.upload.specs.Effects.{renewedState, emptiedState, chosenState, applied}
+use Rattle.shown.specs.Shown.{listAnswer, requestAnswer, chooseEffect, chooseAnswer}
+use Rattle.protocol.specs.Doing.{Done, does, othersAmong, clearEffect, clearDone, planDone, knownDone, messageDone}
+use Rattle.refine.specs.After.{after, afterTurn, afterMessage}
+use Rattle.refine.specs.Views.{plan-shown, upload-shown, length-shown}
 use Rattle.refine.specs.Turned.{Agree, others-shown, empties, count-agrees, ack-agrees}
 use Rattle.refine.specs.Items.{item-agrees}
 
 -- ---- clears
 
-others-agree : (st : State) (s : Bytes) (from : Station) (ks : List ℕ) → every isKnown ks ≡ true → anyOthers (view st s) from ks ≡ othersAmong st from ks
+others-agree : (st : State) (s : Bytes) (from : Station) (ks : List ℕ) → every isKnown ks ≡ true → anyOthers (view st s) from ks ≡ othersAmong (st .plans) from ks
 others-agree st s from [] known = refl
 others-agree st s from (k ∷ ks) known =
     let parts = both (isKnown k) (every isKnown ks) known in
@@ -42,24 +43,35 @@ others-agree st s from (k ∷ ks) known =
 
 cleared-view :
     (st : State) (s : Bytes) → length (st .plans) ≡ length kinds → (ks : List ℕ) → every isKnown ks ≡ true
-    → view (clearedState st ks) s ≡ record { shown = model.empty ks (view st s .shown); uploads = idleAt ks (view st s .uploads) }
-unfolding model.empty turnedState
+    → view (emptiedState st ks) s ≡ record { shown = model.empty ks (view st s .shown); uploads = idleAt ks (view st s .uploads) }
+unfolding model.empty renewedState
 cleared-view st s three [] known = refl
 cleared-view st s three (k ∷ ks) known =
     let parts = both (isKnown k) (every isKnown ks) known in
     let p = emptied (planOf st k) in
-    let st′ = turnedState st k (renews p Silent) in
-    cleared-view st′ s (length-set (st .plans) k p ∙ three) ks (parts .1)
+    cleared-view (renewedState st k p) s (length-set (st .plans) k p ∙ three) ks (parts .1)
     ∙ ap (λ (m : Model). record { shown = model.empty ks (m .shown); uploads = idleAt ks (m .uploads) })
     (empties st s three k (parts .0) (record { system = 0; component = 0 }) Silent silent refl .model)
 
+-- the effect of a clear empties what it covers
+pub clears-covered : (st : State) (k : ℕ) → applied st k (clearEffect (st .plans) k) ≡ emptiedState st (covered k)
+clears-covered st k = go (eqb k everyKind)
+  where
+    go : (t : Bool) → applied st k (cond t EmptiesAll (Renews (emptied (planOf st k)))) ≡ emptiedState st (cond t kinds (k ∷ []))
+    go true = refl
+    go false = refl
+
 module _ (st : State) (s : Bytes) (three : length (st .plans) ≡ length kinds) where
-  clear-agrees : (from : Station) (k : ℕ) → kindOk k clears ≡ true → Agree (clearDone st s from k) (onClear (view st s) from k)
+  -- what is done agrees, put into the state
+  abbrev AgreeIn : (k : ℕ) → Done → Stepped → Type 0
+  AgreeIn k d m = Agree (after st k d) m
+
+  clear-agrees : (from : Station) (k : ℕ) → kindOk k clears ≡ true → AgreeIn k (clearDone (st .plans) s from k) (onClear (view st s) from k)
   unfolding clearDone onClear
   clear-agrees from k ok =
       rw (others-agree st s from (covered k) (covered-known k ok))
-      (either₂ Agree (othersAmong st from (covered k)) (λ t. record { model = refl; answer = refl })
-      (λ t. record { model = cleared-view st s three (covered k) (covered-known k ok); answer = refl }))
+      (either₂ (AgreeIn k) (othersAmong (st .plans) from (covered k)) (λ t. record { model = refl; answer = refl })
+      (λ t. record { model = ap (λ (x : State). view x s) (clears-covered st k) ∙ cleared-view st s three (covered k) (covered-known k ok); answer = refl }))
 
   -- ---- reading and choosing
 
@@ -68,8 +80,8 @@ module _ (st : State) (s : Bytes) (three : length (st .plans) ≡ length kinds) 
       → shownNumber (model.lengthOf (view st s .shown) k) (model.planOf (view st s .shown) k .number) ≡ shownNumber (planOf st k .len) (planOf st k .number)
   number-shown k known = ap₂ shownNumber (length-shown st s k known) (ap (λ (p : model.Plan). p .number) (plan-shown st s k known))
 
-  list-agrees : (from : Station) (k : ℕ) → isKnown k ≡ true → Agree (listDone st s from k) (onList (view st s) from k)
-  unfolding listDone onList
+  list-agrees : (from : Station) (k : ℕ) → isKnown k ≡ true → AgreeIn k (does Nothing s (listAnswer (planOf st k) from k)) (onList (view st s) from k)
+  unfolding listAnswer onList
   list-agrees from k known =
       record {
         model = refl;
@@ -82,11 +94,13 @@ module _ (st : State) (s : Bytes) (three : length (st .plans) ≡ length kinds) 
   item-shown k seq known below =
       ap (λ (p : model.Plan). getD (p .items) seq []) (plan-shown st s k known) ∙ items-at s (planOf st k .half) k (planOf st k .len) seq below
 
-  request-agrees : (from : Station) (k seq : ℕ) → isKnown k ≡ true → Agree (requestDone st s from k seq) (onRequest (view st s) from k seq)
-  unfolding requestDone onRequest view
+  request-agrees :
+      (from : Station) (k seq : ℕ) → isKnown k ≡ true
+      → AgreeIn k (does Nothing s (requestAnswer (planOf st k) (st .current) s from k seq)) (onRequest (view st s) from k seq)
+  unfolding requestAnswer onRequest view
   request-agrees from k seq known =
       rw (length-shown st s k known)
-      (either₂ Agree (ltb seq (planOf st k .len))
+      (either₂ (λ (a : Answer). AgreeIn k (does Nothing s a)) (ltb seq (planOf st k .len))
       (λ below. record {
         model = refl;
         answer =
@@ -98,11 +112,22 @@ module _ (st : State) (s : Bytes) (three : length (st .plans) ≡ length kinds) 
   unfolding view choose
   chosen-view seq = refl
 
-  choose-agrees : (seq : ℕ) → Agree (chooseDone st s seq) (onSetCurrent (view st s) seq)
-  unfolding chooseDone onSetCurrent choose
-  choose-agrees seq =
-      rw (number-shown flight refl, number-shown fence refl, number-shown rally refl, length-shown st s flight refl)
-      (either₂ Agree (ltb seq (planOf st flight .len)) (λ t. record { model = chosen-view seq; answer = refl }) (λ t. record { model = refl; answer = refl }))
+  choose-agrees :
+      (k seq : ℕ)
+      → AgreeIn k (does (chooseEffect (planOf st flight) seq) s (chooseAnswer (planOf st flight) (planOf st fence) (planOf st rally) seq)) (onSetCurrent (view st s) seq)
+  unfolding chooseEffect chooseAnswer onSetCurrent
+  choose-agrees k seq =
+      rw (number-shown flight refl, number-shown fence refl, number-shown rally refl, length-shown st s flight refl) (go (ltb seq (planOf st flight .len)))
+    where
+      numbers : ℕ → ℕ
+      numbers kind = shownNumber (planOf st kind .len) (planOf st kind .number)
+
+      go : (t : Bool)
+          → AgreeIn k (does (cond t (Chooses seq) Nothing) s (cond t (says (current seq (planOf st flight .len) 0 0 (numbers flight) (numbers fence) (numbers rally))) (says refusalText)))
+          (cond t (record { model = record { shown = choose seq (view st s .shown); uploads = view st s .uploads }; answer = says (current seq (planOf st flight .len) 0 0 (numbers flight) (numbers fence) (numbers rally)) })
+          (record { model = view st s; answer = says refusalText }))
+      go true = record { model = chosen-view seq; answer = refl }
+      go false = record { model = refl; answer = refl }
 
   -- ---- an ACK of any kind
 
@@ -114,36 +139,28 @@ module _ (st : State) (s : Bytes) (three : length (st .plans) ≡ length kinds) 
   unfolding view
   no-upload k e = let past : length (view st s .uploads) ≤ k = leb-false k rally e in List·getD-eq-default (view st s .uploads) idle past
 
-  -- an ACK of an unknown kind changes nothing
-  pub unknown-state : (from : Station) (k result : ℕ) → isKnown k ≡ false → turnedState st k (ackTurned (planOf st k) from result) ≡ st
+  -- an ACK of an unknown kind does nothing
+  pub unknown-turn : (from : Station) (k result : ℕ) → isKnown k ≡ false → ackTurned (planOf st k) from result ≡ keeps Silent
   unfolding ackTurned ownUpload
-  unknown-state from k result e =
-      ap (λ (u : Upload). turnedState st k (cond (ownUpload from u && not (eqb result accepted)) (keeps (ended (planOf st k)) Silent) (keeps (planOf st k) Silent)))
-      (ap (λ (p : Plan). p .upload) (no-plan k e))
-      ∙ same-state st k Silent
+  unknown-turn from k result e = rw (no-plan k e)
 
-  unknown-ack : (from : Station) (k result : ℕ) → isKnown k ≡ false → Agree (turns st s k from (ackTurned (planOf st k) from result)) (onAck (view st s) from k result)
-  unfolding ackTurned onAck isOwn
-  unknown-ack from k result e =
-      rw (no-upload k e)
-      (record {
-        model = ap (λ (x : State). view x s) (unknown-state from k result e);
-        answer = either (λ (t : Turned). answerOf (t .say) from k ≡ silent) (ownUpload from (planOf st k .upload) && not (eqb result accepted)) (λ t. refl) (λ t. refl);
-      })
+  unknown-ack : (from : Station) (k result : ℕ) → isKnown k ≡ false → Agree (afterTurn st s k from (ackTurned (planOf st k) from result)) (onAck (view st s) from k result)
+  unfolding onAck isOwn
+  unknown-ack from k result e = rw (no-upload k e, unknown-turn from k result e) (record { model = refl; answer = refl })
 
-  any-ack-agrees : (from : Station) (k result : ℕ) → Agree (turns st s k from (ackTurned (planOf st k) from result)) (onAck (view st s) from k result)
+  any-ack-agrees : (from : Station) (k result : ℕ) → Agree (afterTurn st s k from (ackTurned (planOf st k) from result)) (onAck (view st s) from k result)
   any-ack-agrees from k result = go (isKnown k) refl
     where
-      go : (t : Bool) → isKnown k ≡ t → Agree (turns st s k from (ackTurned (planOf st k) from result)) (onAck (view st s) from k result)
+      go : (t : Bool) → isKnown k ≡ t → Agree (afterTurn st s k from (ackTurned (planOf st k) from result)) (onAck (view st s) from k result)
       go true e = ack-agrees st s three k e from result
       go false e = unknown-ack from k result e
 
   -- ---- every message
 
   module _ (long : storeBytes ≤ length s) (ranged : inRange (view st s) ≡ true) (from : Station) (now k : ℕ) where
-    known-agrees : (r : Request) → kindOk k r ≡ true → Agree (knownDone st s from now k r) (onKnown (view st s) from now k r)
-    unfolding knownDone onKnown kindOk
-    known-agrees (chooses seq) ok = choose-agrees seq
+    known-agrees : (r : Request) → kindOk k r ≡ true → AgreeIn k (knownDone (st .plans) (st .current) s from now k r) (onKnown (view st s) from now k r)
+    unfolding knownDone planDone onKnown kindOk
+    known-agrees (chooses seq) ok = choose-agrees k seq
     known-agrees asksList ok = list-agrees from k ok
     known-agrees (announces n) ok = count-agrees st s three k ok from now n
     known-agrees clears ok = clear-agrees from k ok
@@ -151,6 +168,6 @@ module _ (st : State) (s : Bytes) (three : length (st .plans) ≡ length kinds) 
     known-agrees (asksItem seq) ok = request-agrees from k seq ok
     known-agrees (brings item) ok = item-agrees st s three long ranged k ok from now item
 
-    pub message-agrees : (r : Request) → Agree (messageDone st s from now k r) (onMessage (view st s) from now k r)
+    pub message-agrees : (r : Request) → Agree (afterMessage st s from now k r) (onMessage (view st s) from now k r)
     unfolding messageDone onMessage
-    message-agrees r = either₂ Agree (kindOk k r) (known-agrees r) (λ t. record { model = refl; answer = refl })
+    message-agrees r = either₂ (AgreeIn k) (kindOk k r) (known-agrees r) (λ t. record { model = refl; answer = refl })

@@ -5,30 +5,29 @@ use mathlib.Core.List.{List, [], _∷_, _++_}
 use mathlib.Core.Bool.{true}
 use lib.ListN.{length, getD, take, drop, length-set}
 use lib.Seq.{take-at}
-use lib.Dec.{ltb}
-use Rattle.rules.specs.Limits.{flight, kinds, storeBytes}
+use Rattle.rules.specs.Limits.{kinds, storeBytes}
 use Rattle.rules.specs.Payload.{Bytes}
-use Rattle.rules.specs.Messages.{Station}
 use Rattle.rules.specs.Model.{inRange}
 use Rattle.rules.specs.NextCommand.{Found, nowhere, found, next, reach, advance, answerOf}
-use Rattle.rules.specs.Calls.{Call, storeLent, Request, chooses, asksList, announces, clears, acknowledges, asksItem, brings, Heard, refuses, request, expiry, commandDone, heard}
-use Rattle.rules.specs.Step.{Answer, refused, orders, outcomeOf, replyId, replyBytes, commandIn, ReadsBack, covered, kindOk}
+use Rattle.rules.specs.Calls.{Call, storeLent, Heard, refuses, request, expiry, commandDone, heard}
+use Rattle.rules.specs.Step.{Answer, refused, orders, outcomeOf, replyId, replyBytes, commandIn, ReadsBack}
 use Rattle.rule_laws.specs.Fitting.{ModelFits, CallFits}
 use Rattle.rule_laws.specs.ReadBack.{replies-read}
-use Rattle.rule_laws.specs.Tests.{either}
 use Rattle.rule_laws.specs.Heard.{HeardFits, heard-fits}
 use Rattle.rule_laws.specs.Refused.{Room, none, enough, room-or-refused}
 use Rattle.plan.specs.declared.State.{State}
 use Rattle.plan.specs.View.{planOf, view}
-use Rattle.upload.specs.declared.Say.the-variants.{Silent}
-use Rattle.upload.specs.declared.Turned.{Turned}
-use Rattle.upload.specs.Turns.{emptied, renews}
-use Rattle.states.specs.Whole.{Done, gives, turnedState, clearedState, othersAmong, clearDone, listDone, requestDone, chooseDone, knownDone, messageDone, timerDone}
+use Rattle.upload.specs.declared.Effect.{Effect}
+use Rattle.upload.specs.declared.Effect.the-variants.{Nothing, Turns, Renews, EmptiesAll, Chooses}
+use Rattle.upload.specs.Turns.{emptied}
+use Rattle.upload.specs.Effects.{renewedState, emptiedState, applied}
+use Rattle.protocol.specs.Doing.{messageDone, timerDone}
+use Rattle.refine.specs.After.{After, gives, afterMessage, afterTimer}
 use Rattle.refine.specs.Promise.{Result, Serves, halfOf, spare}
 use Rattle.refine.specs.Steps.{Steps, refused-steps, message-steps, timer-steps, done-steps}
 
 -- a result that gives the step's state and answer
-pub record Gives (d : Done) (s′ b b′ : Bytes) (r : Result State) : Type 0 where
+pub record Gives (d : After) (s′ b b′ : Bytes) (r : Result State) : Type 0 where
   pub state : r .state ≡ d .state
   pub store : s′ ≡ d .store
   pub outcome : r .outcome ≡ outcomeOf (d .answer)
@@ -39,7 +38,7 @@ pub record Gives (d : Done) (s′ b b′ : Bytes) (r : Result State) : Type 0 wh
   pub reads : ReadsBack (d .answer) (r .id) (take (r .len) b′)
 
 pub steps-serve :
-    (c : Call) (st : State) (s s′ b b′ : Bytes) (d : Done) (r : Result State) → Steps c st s d → Gives d s′ b b′ r
+    (c : Call) (st : State) (s s′ b b′ : Bytes) (d : After) (r : Result State) → Steps c st s d → Gives d s′ b b′ r
     → Serves State view halfOf spare c st s s′ b b′ r
 steps-serve c st s s′ b b′ d r steps gives-it =
     let said = steps .answer in
@@ -65,47 +64,41 @@ reached (nowhere c) st = st
 reached (found n counts c) st = record { plans = st .plans; current = n; begun = true; counts = counts }
 
 -- the code's step by what is heard
-doneBy : State → Bytes → Heard → Done
+doneBy : State → Bytes → Heard → After
 doneBy st s (refuses outcome) = gives st s (refused outcome)
-doneBy st s (request from now k r) = messageDone st s from now k r
-doneBy st s (expiry now k) = timerDone st s now k
+doneBy st s (request from now k r) = afterMessage st s from now k r
+doneBy st s (expiry now k) = afterTimer st s now k
 doneBy st s commandDone = gives (reached (next (view st s .shown)) st) s (orders (answerOf (next (view st s .shown))))
 
 abbrev Three : State → Type 0
 Three st = length (st .plans) ≡ length kinds
 
-module _ (st : State) (three : Three st) where
-  turned-three : (k : ℕ) (t : Turned) → Three (turnedState st k t)
-  unfolding turnedState
-  turned-three k t = length-set (st .plans) k (t .plan) ∙ three
+-- the plans after an effect are three
+emptied-three : (st : State) (ks : List ℕ) → Three st → Three (emptiedState st ks)
+unfolding renewedState
+emptied-three st [] three = three
+emptied-three st (k ∷ ks) three =
+    let p = emptied (planOf st k) in
+    emptied-three (renewedState st k p) ks (length-set (st .plans) k p ∙ three)
 
-  reached-three : (f : Found) → Three (reached f st)
-  unfolding reached
-  reached-three (nowhere c) = three
-  reached-three (found n counts c) = three
+applied-three : (st : State) (k : ℕ) (e : Effect) → Three st → Three (applied st k e)
+unfolding renewedState
+applied-three st k Nothing three = three
+applied-three st k (Turns p) three = length-set (st .plans) k p ∙ three
+applied-three st k (Renews p) three = length-set (st .plans) k p ∙ three
+applied-three st k EmptiesAll three = emptied-three st kinds three
+applied-three st k (Chooses seq) three = three
 
-cleared-three : (st : State) (ks : List ℕ) → Three st → Three (clearedState st ks)
-cleared-three st [] three = three
-cleared-three st (k ∷ ks) three =
-    let t = renews (emptied (planOf st k)) Silent in
-    cleared-three (turnedState st k t) ks (turned-three st three k t)
-
-known-three : (st : State) (s : Bytes) (from : Station) (now k : ℕ) (r : Request) → Three st → Three (knownDone st s from now k r .state)
-unfolding knownDone chooseDone listDone requestDone clearDone
-known-three st s from now k (chooses seq) three = either (λ (d : Done). Three (d .state)) (ltb seq (planOf st flight .len)) (λ t. three) (λ t. three)
-known-three st s from now k asksList three = three
-known-three st s from now k (announces n) three = turned-three st three k _
-known-three st s from now k clears three =
-    either (λ (d : Done). Three (d .state)) (othersAmong st from (covered k)) (λ t. three) (λ t. cleared-three st (covered k) three)
-known-three st s from now k (acknowledges result) three = turned-three st three k _
-known-three st s from now k (asksItem seq) three = either (λ (d : Done). Three (d .state)) (ltb seq (planOf st k .len)) (λ t. three) (λ t. three)
-known-three st s from now k (brings item) three = turned-three st three k _
+reached-three : (st : State) → Three st → (f : Found) → Three (reached f st)
+unfolding reached
+reached-three st three (nowhere c) = three
+reached-three st three (found n counts c) = three
 
 done-three : (st : State) (s : Bytes) (h : Heard) → Three st → Three (doneBy st s h .state)
-unfolding doneBy messageDone timerDone
+unfolding doneBy
 done-three st s (refuses outcome) three = three
-done-three st s (request from now k r) three = either (λ (d : Done). Three (d .state)) (kindOk k r) (λ t. known-three st s from now k r three) (λ t. three)
-done-three st s (expiry now k) three = turned-three st three k _
+done-three st s (request from now k r) three = applied-three st k (messageDone (st .plans) (st .current) s from now k r .effect) three
+done-three st s (expiry now k) three = applied-three st k (timerDone (planOf st k) s now k .effect) three
 done-three st s commandDone three = reached-three st three (next (view st s .shown))
 
 reached-view : (st : State) (s : Bytes) (f : Found) → view (reached f st) s ≡ record { shown = reach f (view st s .shown); uploads = view st s .uploads }
@@ -141,7 +134,7 @@ pub record Kept (c : Call) (st : State) (s b : Bytes) : Type 0 where
 
 -- what a step gives is a result; a refusal has no reply, and what is said reads back where the model and the call fit
 given :
-    (c : Call) (st : State) (s b : Bytes) (d : Done) → Three (d .state) → Steps c st s d → ReadsBack (d .answer) (replyId (d .answer)) (replyBytes (d .answer))
+    (c : Call) (st : State) (s b : Bytes) (d : After) → Three (d .state) → Steps c st s d → ReadsBack (d .answer) (replyId (d .answer)) (replyBytes (d .answer))
     → Kept c st s b
 given c st s b d three steps reads =
     let bytes = replyBytes (d .answer) in

@@ -4,11 +4,11 @@ use native.Mathlib.Omega.{arith}
 use mathlib.Core.Path.{_≡_, refl, sym, ap, ap₂, subst, _∙_}
 use mathlib.Core.Logic.{_⊎_, inl, inr, ⊎-elim}
 use mathlib.Core.List.{List, [], _∷_}
-use mathlib.Core.Bool.{Bool, true, false, true≢false, not, cond, _&&_}
-use lib.ListN.{length, getD, length-set}
+use mathlib.Core.Bool.{Bool, true, false, true≢false, not, cond, _&&_, or-false}
+use lib.ListN.{length, getD, set, length-set}
 use lib.Dec.{eqb, leb, ltb}
 use borrow.Author.Tests.{leb-true, le-leb, eq-eqb, ne-eqb, eqb-true, ltb-false, leb-false, not-false}
-use Rattle.rules.specs.Limits.{flight, rally, kinds, sizeOf, itemBytes, storeBytes, accepted, maxRepeats, expiryMs, lastNumber}
+use Rattle.rules.specs.Limits.{flight, rally, kinds, everyKind, sizeOf, itemBytes, storeBytes, accepted, maxRepeats, expiryMs, lastNumber}
 use Rattle.rules.specs.Payload.{Bytes}
 use Rattle.rules.specs.Messages.{Station, Item, itemOf, sameStation}
 use Rattle.rules.specs.Model as model
@@ -30,14 +30,18 @@ use Rattle.places.specs.Part.{getD-put-before, getD-put-after}
 use Rattle.places.specs.Places.{itemsIn, offsetOf, offset-within}
 use Rattle.places.specs.Writes.{length-stays}
 use Rattle.plan.specs.View.{emptyPlan, planOf, view, stationIn}
-use Rattle.upload.specs.declared.Say.the-variants.{Silent}
+use Rattle.upload.specs.declared.Effect.{Effect}
+use Rattle.upload.specs.declared.Effect.the-variants.{Nothing, Turns, Renews, EmptiesAll, Chooses}
 use Rattle.upload.specs.declared.Turned.{Turned}
-use Rattle.upload.specs.Turns.{ended, emptied, renews, othersUpload, ownUpload, countTurned, ackTurned, timerTurned, TurnAndStore, validItemTurned, itemVerdict, itemTurned, stored}
-use Rattle.states.specs.Whole.{Done, gives, turnedState, clearedState, othersAmong, clearDone, listDone, requestDone, chooseDone, knownDone, messageDone, timerDone}
+use Rattle.upload.specs.Turns.{withUpload, ended, emptied, started, oneMore, askedAgain, othersUpload, ownUpload, countTurned, ackTurned, timerTurned, TurnAndStore, validItemTurned, itemVerdict, itemTurned, stored}
+use Rattle.upload.specs.Effects.{turnedState, renewedState, emptiedState, applied}
+use Rattle.shown.specs.Shown.{chooseEffect}
+use Rattle.protocol.specs.Doing.{Done, othersAmong, clearEffect, clearDone, planDone, knownDone, messageDone, timerDone}
+use Rattle.refine.specs.After.{After, gives, afterMessage, afterTimer}
 use Rattle.refine.specs.Views.{plan-shown}
 use Rattle.refine.specs.Turned.{Agree, timer-agrees}
 use Rattle.refine.specs.Items.{next-below}
-use Rattle.refine.specs.Messages.{unknown-state, message-agrees}
+use Rattle.refine.specs.Messages.{unknown-turn, message-agrees}
 use Rattle.refine.specs.Promise.{numberOf, halfOf, inPlace, spareIn, spareAt, spare}
 
 -- ---- halves
@@ -59,50 +63,67 @@ next-moves n = go (eqb n lastNumber) refl
 stays-ok : (p q : Plan) → q .half ≡ p .half → q .number ≡ p .number → HalfOk p q
 stays-ok p q h n = h ∙ ap (λ (t : Bool). cond t (p .half) (not (p .half))) (sym (eq-eqb (q .number) (p .number) n))
 
-abbrev TurnOk : Plan → Turned → Type 0
-TurnOk p t = HalfOk p (t .plan)
+-- a plan that a call puts in is of a known kind, and its half is so
+abbrev pub EffectOk : (k : ℕ) → Plan → Effect → Type 0
+EffectOk k p Nothing = Unit
+EffectOk k p (Turns q) = (isKnown k ≡ true) × HalfOk p q
+EffectOk k p (Renews q) = (isKnown k ≡ true) × HalfOk p q
+EffectOk k p EmptiesAll = Unit
+EffectOk k p (Chooses seq) = Unit
 
-module _ (p : Plan) where
-  same-ok : HalfOk p p
-  same-ok = stays-ok p p refl refl
+same-ok : (p : Plan) → HalfOk p p
+same-ok p = stays-ok p p refl refl
 
-  ended-ok : HalfOk p (ended p)
-  ended-ok = stays-ok p (ended p) refl refl
+-- each turn of a known kind's plan
+module _ (k : ℕ) (known : isKnown k ≡ true) (p : Plan) where
+  abbrev TurnOk : Turned → Type 0
+  TurnOk t = EffectOk k p (t .effect)
 
-  count-ok : (from : Station) (now n size : ℕ) → TurnOk p (countTurned p from now n size)
+  ended-ok : (isKnown k ≡ true) × HalfOk p (ended p)
+  ended-ok = (known, stays-ok p (ended p) refl refl)
+
+  emptied-ok : (isKnown k ≡ true) × HalfOk p (emptied p)
+  emptied-ok = (known, stays-ok p (emptied p) refl refl)
+
+  runs-ok : (r : Run) → (isKnown k ≡ true) × HalfOk p (withUpload p (Running r))
+  runs-ok r = (known, stays-ok p (withUpload p (Running r)) refl refl)
+
+  count-ok : (from : Station) (now n size : ℕ) → TurnOk (countTurned p from now n size)
   unfolding countTurned
   count-ok from now n size =
-      either (TurnOk p) (othersUpload from (p .upload)) (λ t. same-ok)
-      (λ t. either (TurnOk p) (ltb size n) (λ t. ended-ok) (λ t. either (TurnOk p) (eqb n 0) (λ t. stays-ok p (emptied p) refl refl) (λ t. same-ok)))
+      either TurnOk (othersUpload from (p .upload)) (λ t. tt)
+      (λ t. either TurnOk (ltb size n) (λ t. ended-ok) (λ t. either TurnOk (eqb n 0) (λ t. emptied-ok) (λ t. runs-ok (started from now n))))
 
-  ack-ok : (from : Station) (result : ℕ) → TurnOk p (ackTurned p from result)
+  ack-ok : (from : Station) (result : ℕ) → TurnOk (ackTurned p from result)
   unfolding ackTurned
-  ack-ok from result = either (TurnOk p) (ownUpload from (p .upload) && not (eqb result accepted)) (λ t. ended-ok) (λ t. same-ok)
+  ack-ok from result = either TurnOk (ownUpload from (p .upload) && not (eqb result accepted)) (λ t. ended-ok) (λ t. tt)
 
-  timer-ok : (u : Upload) (now : ℕ) → TurnOk p (timerTurned u p now)
+  timer-ok : (u : Upload) (now : ℕ) → TurnOk (timerTurned u p now)
   unfolding timerTurned
-  timer-ok Idle now = same-ok
+  timer-ok Idle now = tt
   timer-ok (Running r) now =
-      either (TurnOk p) (ltb (elapsed now (r .started)) expiryMs) (λ t. same-ok) (λ t. either (TurnOk p) (ltb (r .repeats) maxRepeats) (λ t. same-ok) (λ t. ended-ok))
+      either TurnOk (ltb (elapsed now (r .started)) expiryMs) (λ t. tt)
+      (λ t. either TurnOk (ltb (r .repeats) maxRepeats) (λ t. runs-ok (askedAgain r now)) (λ t. ended-ok))
 
-  replaced-ok : (n : ℕ) → HalfOk p (record { len = n; half = not (p .half); number = nextNumber (p .number); upload = Idle })
-  replaced-ok n = ap (λ (t : Bool). cond t (p .half) (not (p .half))) (sym (next-moves (p .number)))
+  replaced-ok : (n : ℕ) → (isKnown k ≡ true) × HalfOk p (record { len = n; half = not (p .half); number = nextNumber (p .number); upload = Idle })
+  replaced-ok n = (known, ap (λ (t : Bool). cond t (p .half) (not (p .half))) (sym (next-moves (p .number))))
 
   abbrev StoredTurnOk : TurnAndStore → Type 0
-  StoredTurnOk t = TurnOk p (t .turned)
+  StoredTurnOk t = TurnOk (t .turned)
 
-  valid-ok : (s : Bytes) (kind : ℕ) (r : Run) (now : ℕ) → StoredTurnOk (validItemTurned s kind p r now)
+  valid-ok : (s : Bytes) (r : Run) (now : ℕ) → StoredTurnOk (validItemTurned s k p r now)
   unfolding validItemTurned
-  valid-ok s kind r now =
-      either StoredTurnOk (not (eqb (r .next + 1) (r .count))) (λ t. same-ok) (λ t. either StoredTurnOk (wholeOk kind _) (λ t. replaced-ok (r .count)) (λ t. ended-ok))
+  valid-ok s r now =
+      either StoredTurnOk (not (eqb (r .next + 1) (r .count))) (λ t. runs-ok (oneMore r now))
+      (λ t. either StoredTurnOk (wholeOk k _) (λ t. replaced-ok (r .count)) (λ t. ended-ok))
 
-  item-ok : (s : Bytes) (kind : ℕ) (u : Upload) (from : Station) (now : ℕ) (item : Item) → StoredTurnOk (itemTurned s kind u p from now item)
+  item-ok : (s : Bytes) (u : Upload) (from : Station) (now : ℕ) (item : Item) → StoredTurnOk (itemTurned s k u p from now item)
   unfolding itemTurned
-  item-ok s kind Idle from now item = same-ok
-  item-ok s kind (Running r) from now item =
-      either StoredTurnOk (not (sameStation from (stationIn r))) (λ t. same-ok)
-      (λ t. either StoredTurnOk (not (eqb (item .seq) (r .next))) (λ t. same-ok)
-      (λ t. either StoredTurnOk (not (eqb (itemVerdict s kind p r item) accepted)) (λ t. ended-ok) (λ t. valid-ok (stored s kind p r item) kind r now)))
+  item-ok s Idle from now item = tt
+  item-ok s (Running r) from now item =
+      either StoredTurnOk (not (sameStation from (stationIn r))) (λ t. tt)
+      (λ t. either StoredTurnOk (not (eqb (item .seq) (r .next))) (λ t. tt)
+      (λ t. either StoredTurnOk (not (eqb (itemVerdict s k p r item) accepted)) (λ t. ended-ok) (λ t. valid-ok (stored s k p r item) r now)))
 
 -- ---- halves of the whole state
 
@@ -112,28 +133,23 @@ HalvesOk st st′ = (j : ℕ) → isKnown j ≡ true → HalfOk (planOf st j) (p
 halves-same : (st : State) → HalvesOk st st
 halves-same st j known = same-ok (planOf st j)
 
-turned-plan : (st : State) → length (st .plans) ≡ length kinds → (k j : ℕ) (t : Turned) → isKnown k ≡ true → planOf (turnedState st k t) j ≡ cond (eqb k j) (t .plan) (planOf st j)
-unfolding turnedState
-turned-plan st three k j t known = at-set (st .plans) k j (t .plan) emptyPlan (rw three (known-below k known))
-
-turned-halves : (st : State) → length (st .plans) ≡ length kinds → (k : ℕ) (t : Turned) → isKnown k ≡ true → TurnOk (planOf st k) t → HalvesOk st (turnedState st k t)
-turned-halves st three k t known ok j known′ =
-    rw (turned-plan st three k j t known)
-    (either (HalfOk (planOf st j)) (eqb k j) (λ e. subst (λ (i : ℕ). HalfOk (planOf st i) (t .plan)) (eqb-true k j e) ok) (λ e. same-ok (planOf st j)))
+-- the plans after one of them became another
+put-plan : (st : State) → length (st .plans) ≡ length kinds → (k j : ℕ) (p : Plan) → isKnown k ≡ true → getD (set (st .plans) k p) j emptyPlan ≡ cond (eqb k j) p (planOf st j)
+put-plan st three k j p known = at-set (st .plans) k j p emptyPlan (rw three (known-below k known))
 
 -- a clear keeps every half and number
 record Still (st st′ : State) : Type 0 where
   half : (j : ℕ) → planOf st′ j .half ≡ planOf st j .half
   number : (j : ℕ) → planOf st′ j .number ≡ planOf st j .number
 
-cleared-still : (st : State) → length (st .plans) ≡ length kinds → (ks : List ℕ) → every isKnown ks ≡ true → Still st (clearedState st ks)
-unfolding turnedState
+cleared-still : (st : State) → length (st .plans) ≡ length kinds → (ks : List ℕ) → every isKnown ks ≡ true → Still st (emptiedState st ks)
+unfolding renewedState
 cleared-still st three [] known = record { half = λ j. refl; number = λ j. refl }
 cleared-still st three (k ∷ ks) known =
     let parts = both (isKnown k) (every isKnown ks) known in
-    let t = renews (emptied (planOf st k)) Silent in
-    let rest = cleared-still (turnedState st k t) (length-set (st .plans) k (emptied (planOf st k)) ∙ three) ks (parts .1) in
-    let at : (j : ℕ) → planOf (turnedState st k t) j ≡ cond (eqb k j) (emptied (planOf st k)) (planOf st j) = λ j. turned-plan st three k j t (parts .0) in
+    let p = emptied (planOf st k) in
+    let rest = cleared-still (renewedState st k p) (length-set (st .plans) k p ∙ three) ks (parts .1) in
+    let at : (j : ℕ) → planOf (renewedState st k p) j ≡ cond (eqb k j) p (planOf st j) = λ j. put-plan st three k j p (parts .0) in
     record {
       half = λ j. rest .half j ∙ ap (λ (p : Plan). p .half) (at j) ∙ either (λ (p : Plan). p .half ≡ planOf st j .half) (eqb k j) (λ e. ap (λ (i : ℕ). planOf st i .half) (eqb-true k j e)) (λ e. refl);
       number = λ j. rest .number j ∙ ap (λ (p : Plan). p .number) (at j) ∙ either (λ (p : Plan). p .number ≡ planOf st j .number) (eqb k j) (λ e. ap (λ (i : ℕ). planOf st i .number) (eqb-true k j e)) (λ e. refl);
@@ -141,6 +157,21 @@ cleared-still st three (k ∷ ks) known =
 
 still-halves : (st st′ : State) → Still st st′ → HalvesOk st st′
 still-halves st st′ h j known = stays-ok (planOf st j) (planOf st′ j) (h .half j) (h .number j)
+
+-- the halves after an effect
+put-halves :
+    (st st′ : State) → length (st .plans) ≡ length kinds → (k : ℕ) (p : Plan) → st′ .plans ≡ set (st .plans) k p → (isKnown k ≡ true) × HalfOk (planOf st k) p → HalvesOk st st′
+put-halves st st′ three k p plans ok j known =
+    subst (HalfOk (planOf st j)) (sym (ap (λ (l : List Plan). getD l j emptyPlan) plans ∙ put-plan st three k j p (ok .0)))
+    (either (HalfOk (planOf st j)) (eqb k j) (λ e. subst (λ (i : ℕ). HalfOk (planOf st i) p) (eqb-true k j e) (ok .1)) (λ e. same-ok (planOf st j)))
+
+effect-halves : (st : State) → length (st .plans) ≡ length kinds → (k : ℕ) (e : Effect) → EffectOk k (planOf st k) e → HalvesOk st (applied st k e)
+unfolding renewedState
+effect-halves st three k Nothing ok = halves-same st
+effect-halves st three k (Turns p) ok = put-halves st (turnedState st k p) three k p refl ok
+effect-halves st three k (Renews p) ok = put-halves st (renewedState st k p) three k p refl ok
+effect-halves st three k EmptiesAll ok = still-halves st (emptiedState st kinds) (cleared-still st three kinds refl)
+effect-halves st three k (Chooses seq) ok = halves-same st
 
 -- ---- the store beside the spare bytes
 
@@ -208,56 +239,64 @@ module _ (st : State) (s : Bytes) (long : storeBytes ≤ length s) (ranged : inR
 -- ---- every message
 
 module _ (st : State) (s : Bytes) (three : length (st .plans) ≡ length kinds) (long : storeBytes ≤ length s) (ranged : inRange (view st s) ≡ true) (from : Station) (now k : ℕ) where
-  abbrev halvesKept : Done → Type 0
-  halvesKept d = HalvesOk st (d .state)
+  abbrev DoneOk : Done → Type 0
+  DoneOk d = EffectOk k (planOf st k) (d .effect)
 
-  ack-halves : (result : ℕ) → HalvesOk st (turnedState st k (ackTurned (planOf st k) from result))
-  ack-halves result = go (isKnown k) refl
+  ack-effect : (result : ℕ) → EffectOk k (planOf st k) (ackTurned (planOf st k) from result .effect)
+  ack-effect result = go (isKnown k) refl
     where
-      go : (t : Bool) → isKnown k ≡ t → HalvesOk st (turnedState st k (ackTurned (planOf st k) from result))
-      go true known = turned-halves st three k (ackTurned (planOf st k) from result) known (ack-ok (planOf st k) from result)
-      go false e = subst (HalvesOk st) (sym (unknown-state st s three from k result e)) (halves-same st)
+      go : (t : Bool) → isKnown k ≡ t → EffectOk k (planOf st k) (ackTurned (planOf st k) from result .effect)
+      go true known = ack-ok k known (planOf st k) from result
+      go false e = subst (λ (t : Turned). EffectOk k (planOf st k) (t .effect)) (sym (unknown-turn st s three from k result e)) tt
 
-  known-halves : (r : Request) → kindOk k r ≡ true → halvesKept (knownDone st s from now k r)
-  unfolding knownDone kindOk chooseDone listDone requestDone clearDone
-  known-halves (chooses seq) ok = either halvesKept (ltb seq (planOf st flight .len)) (λ t. halves-same st) (λ t. halves-same st)
-  known-halves asksList ok = halves-same st
-  known-halves (announces n) ok = turned-halves st three k (countTurned (planOf st k) from now n (sizeOf k)) ok (count-ok (planOf st k) from now n (sizeOf k))
-  known-halves clears ok =
-      either halvesKept (othersAmong st from (covered k)) (λ t. halves-same st)
-      (λ t. still-halves st (clearedState st (covered k)) (cleared-still st three (covered k) (covered-known k ok)))
-  known-halves (acknowledges result) ok = ack-halves result
-  known-halves (asksItem seq) ok = either halvesKept (ltb seq (planOf st k .len)) (λ t. halves-same st) (λ t. halves-same st)
-  known-halves (brings item) ok =
-      turned-halves st three k (itemTurned s k (planOf st k .upload) (planOf st k) from now item .turned) ok (item-ok (planOf st k) s k (planOf st k .upload) from now item)
+  clear-effect : kindOk k clears ≡ true → EffectOk k (planOf st k) (clearEffect (st .plans) k)
+  unfolding kindOk
+  clear-effect ok = go (eqb k everyKind) refl
+    where
+      go : (t : Bool) → eqb k everyKind ≡ t → EffectOk k (planOf st k) (cond t EmptiesAll (Renews (emptied (planOf st k))))
+      go true e = tt
+      go false e = emptied-ok k (rw (e, or-false) at ok) (planOf st k)
 
-  message-halves : (r : Request) → halvesKept (messageDone st s from now k r)
+  known-effect : (r : Request) → kindOk k r ≡ true → DoneOk (knownDone (st .plans) (st .current) s from now k r)
+  unfolding knownDone planDone kindOk chooseEffect clearDone
+  known-effect (chooses seq) ok = either (EffectOk k (planOf st k)) (ltb seq (planOf st flight .len)) (λ t. tt) (λ t. tt)
+  known-effect asksList ok = tt
+  known-effect (announces n) ok = count-ok k ok (planOf st k) from now n (sizeOf k)
+  known-effect clears ok = either DoneOk (othersAmong (st .plans) from (covered k)) (λ t. tt) (λ t. clear-effect ok)
+  known-effect (acknowledges result) ok = ack-effect result
+  known-effect (asksItem seq) ok = tt
+  known-effect (brings item) ok = item-ok k ok (planOf st k) s (planOf st k .upload) from now item
+
+  pub message-effect : (r : Request) → DoneOk (messageDone (st .plans) (st .current) s from now k r)
   unfolding messageDone
-  message-halves r = either halvesKept (kindOk k r) (known-halves r) (λ t. halves-same st)
+  message-effect r = either DoneOk (kindOk k r) (known-effect r) (λ t. tt)
+
+  message-halves : (r : Request) → HalvesOk st (afterMessage st s from now k r .state)
+  message-halves r = effect-halves st three k (messageDone (st .plans) (st .current) s from now k r .effect) (message-effect r)
 
   abbrev Left : Request → Done → Type 0
   Left r d = Beside s (spareAt st (request from now k r)) (d .store)
 
-  known-beside : (r : Request) → kindOk k r ≡ true → Left r (knownDone st s from now k r)
-  unfolding knownDone kindOk chooseDone listDone requestDone clearDone spareAt
-  known-beside (chooses seq) ok = either (Left (chooses seq)) (ltb seq (planOf st flight .len)) (λ t. beside-same s (λ i. false)) (λ t. beside-same s (λ i. false))
+  known-beside : (r : Request) → kindOk k r ≡ true → Left r (knownDone (st .plans) (st .current) s from now k r)
+  unfolding knownDone planDone kindOk clearDone spareAt
+  known-beside (chooses seq) ok = beside-same s (λ i. false)
   known-beside asksList ok = beside-same s (λ i. false)
   known-beside (announces n) ok = beside-same s (λ i. false)
-  known-beside clears ok = either (Left clears) (othersAmong st from (covered k)) (λ t. beside-same s (λ i. false)) (λ t. beside-same s (λ i. false))
+  known-beside clears ok = either (Left clears) (othersAmong (st .plans) from (covered k)) (λ t. beside-same s (λ i. false)) (λ t. beside-same s (λ i. false))
   known-beside (acknowledges result) ok = beside-same s (λ i. false)
-  known-beside (asksItem seq) ok = either (Left (asksItem seq)) (ltb seq (planOf st k .len)) (λ t. beside-same s (λ i. false)) (λ t. beside-same s (λ i. false))
+  known-beside (asksItem seq) ok = beside-same s (λ i. false)
   known-beside (brings item) ok =
       let after = item-beside st s long ranged k ok (planOf st k .upload) refl from now item in
       record { bytes = λ i e. after .bytes i (rw ok at e); long = after .long }
 
-  message-beside : (r : Request) → Left r (messageDone st s from now k r)
+  message-beside : (r : Request) → Left r (messageDone (st .plans) (st .current) s from now k r)
   unfolding messageDone
   message-beside r = either (Left r) (kindOk k r) (known-beside r) (λ t. beside-same s (spareAt st (request from now k r)))
 
 -- ---- what every call keeps of the promise
 
 -- the code's step d of call c
-pub record Steps (c : Call) (st : State) (s : Bytes) (d : Done) : Type 0 where
+pub record Steps (c : Call) (st : State) (s : Bytes) (d : After) : Type 0 where
   pub model : view (d .state) (d .store) ≡ step (view st s) c .model
   pub answer : d .answer ≡ step (view st s) c .answer
   pub halves :
@@ -293,7 +332,7 @@ refused-steps c st s outcome e =
 
 -- a step that is the rules' of what is heard, and is no refusal
 heard-steps :
-    (c : Call) (st : State) (s : Bytes) (h : Heard) (d : Done) → inRange (view st s) ≡ true → heard (inRange (view st s)) c ≡ h → Agree d (act (view st s) h)
+    (c : Call) (st : State) (s : Bytes) (h : Heard) (d : After) → inRange (view st s) ≡ true → heard (inRange (view st s)) c ≡ h → Agree d (act (view st s) h)
     → HalvesOk st (d .state) → isRefused (act (view st s) h .answer) ≡ false → Beside s (spareAt st h) (d .store) → Steps c st s d
 unfolding step
 heard-steps c st s h d ranged e agree halves answered beside =
@@ -312,18 +351,18 @@ module _ (c : Call) (st : State) (s : Bytes) (three : length (st .plans) ≡ len
   -- a message that is not refused
   pub message-steps :
       storeBytes ≤ length s → (from : Station) (now k : ℕ) (r : Request) → heard (inRange (view st s)) c ≡ request from now k r
-      → Steps c st s (messageDone st s from now k r)
+      → Steps c st s (afterMessage st s from now k r)
   unfolding act
   message-steps long from now k r e =
-      heard-steps c st s (request from now k r) (messageDone st s from now k r) ranged e (message-agrees st s three long ranged from now k r)
+      heard-steps c st s (request from now k r) (afterMessage st s from now k r) ranged e (message-agrees st s three long ranged from now k r)
       (message-halves st s three long ranged from now k r) (message-answered (view st s) from now k r) (message-beside st s three long ranged from now k r)
 
   -- a timer call that is not refused
-  pub timer-steps : (now k : ℕ) → isKnown k ≡ true → heard (inRange (view st s)) c ≡ expiry now k → Steps c st s (timerDone st s now k)
+  pub timer-steps : (now k : ℕ) → isKnown k ≡ true → heard (inRange (view st s)) c ≡ expiry now k → Steps c st s (afterTimer st s now k)
   unfolding act timerDone spareAt
   timer-steps now k known e =
-      heard-steps c st s (expiry now k) (timerDone st s now k) ranged e (timer-agrees st s three k known now)
-      (turned-halves st three k (timerTurned (planOf st k .upload) (planOf st k) now) known (timer-ok (planOf st k) (planOf st k .upload) now))
+      heard-steps c st s (expiry now k) (afterTimer st s now k) ranged e (timer-agrees st s three k known now)
+      (effect-halves st three k (timerTurned (planOf st k .upload) (planOf st k) now .effect) (timer-ok k known (planOf st k) (planOf st k .upload) now))
       (timer-answered (view st s) (model.uploadOf (view st s) k) now k) (beside-same s (λ i. false))
 
   -- a "command done" call that is not refused, by the next command's own promise

@@ -23,12 +23,14 @@ use Rattle.plan.specs.View.{planOf, runIn, uploadIn, view}
 use Rattle.upload.specs.declared.Say.{Say}
 use Rattle.upload.specs.declared.Say.the-variants.{Silent, Ack, Ask}
 use Rattle.upload.specs.declared.Turned.{Turned}
-use Rattle.upload.specs.Turns.{stationOf, withUpload, ended, emptied, started, askedAgain, othersUpload, ownUpload, keeps, renews, countTurned, ackTurned, timerTurned}
-use Rattle.states.specs.Whole.{Done, answerOf, turns, timerDone}
-use Rattle.refine.specs.Views.{plan-shown, upload-shown, same-state, view-upload, view-renewed}
+use Rattle.upload.specs.Turns.{stationOf, withUpload, ended, emptied, started, askedAgain, othersUpload, ownUpload, keeps, moves, renews, countTurned, ackTurned, timerTurned}
+use Rattle.answers.specs.Answered.{answerOf}
+use Rattle.protocol.specs.Doing.{timerDone}
+use Rattle.refine.specs.After.{After, afterTurn, afterTimer}
+use Rattle.refine.specs.Views.{plan-shown, upload-shown, view-upload, view-renewed}
 
 -- the code's step shows the rules' model, and gives the rules' answer
-pub record Agree (d : Done) (m : Stepped) : Type 0 where
+pub record Agree (d : After) (m : Stepped) : Type 0 where
   pub model : view (d .state) (d .store) ≡ m .model
   pub answer : d .answer ≡ m .answer
 
@@ -45,24 +47,24 @@ own-shown from s half k (Running r) = refl
 
 module _ (st : State) (s : Bytes) (three : length (st .plans) ≡ length kinds) (k : ℕ) (known : isKnown k ≡ true) (to : Station) where
   abbrev pub Agrees : Turned → Stepped → Type 0
-  Agrees t m = Agree (turns st s k to t) m
+  Agrees t m = Agree (afterTurn st s k to t) m
 
   -- nothing changes
-  pub kept : (say : Say) (a : Answer) → answerOf say to k ≡ a → Agrees (keeps (planOf st k) say) (record { model = view st s; answer = a })
-  kept say a e = record { model = ap (λ (x : State). view x s) (same-state st k say); answer = e }
+  pub kept : (say : Say) (a : Answer) → answerOf say to k ≡ a → Agrees (keeps say) (record { model = view st s; answer = a })
+  kept say a e = record { model = refl; answer = e }
 
   -- the upload ends
-  pub ends : (say : Say) (a : Answer) → answerOf say to k ≡ a → Agrees (keeps (ended (planOf st k)) say) (record { model = record { shown = view st s .shown; uploads = set (view st s .uploads) k idle }; answer = a })
+  pub ends : (say : Say) (a : Answer) → answerOf say to k ≡ a → Agrees (moves (ended (planOf st k)) say) (record { model = record { shown = view st s .shown; uploads = set (view st s .uploads) k idle }; answer = a })
   unfolding uploadIn
-  ends say a e = record { model = view-upload st s three k Idle say known; answer = e }
+  ends say a e = record { model = view-upload st s three k Idle known; answer = e }
 
   -- an upload runs on
   pub runs :
       (r : Run) (say : Say) (a : Answer) → answerOf say to k ≡ a
-      → Agrees (keeps (withUpload (planOf st k) (Running r)) say)
+      → Agrees (moves (withUpload (planOf st k) (Running r)) say)
       (record { model = record { shown = view st s .shown; uploads = set (view st s .uploads) k (running (runIn s (not (planOf st k .half)) k r)) }; answer = a })
   unfolding uploadIn
-  runs r say a e = record { model = view-upload st s three k (Running r) say known; answer = e }
+  runs r say a e = record { model = view-upload st s three k (Running r) known; answer = e }
 
   -- the plan becomes empty
   pub empties :
@@ -73,7 +75,7 @@ module _ (st : State) (s : Bytes) (three : length (st .plans) ≡ length kinds) 
   empties say a e =
       record {
         model =
-            view-renewed st s three k (emptied (planOf st k)) say known
+            view-renewed st s three k (emptied (planOf st k)) known
             ∙ ap
             (λ (n : ℕ). record { shown = withPlan k (record { items = []; number = n }) (view st s .shown); uploads = set (view st s .uploads) k idle })
             (sym (ap (λ (q : model.Plan). q .number) (plan-shown st s k known)));
@@ -100,7 +102,7 @@ module _ (st : State) (s : Bytes) (three : length (st .plans) ≡ length kinds) 
 -- the timer: the reply goes to the upload's station
 timer-by :
     (st : State) (s : Bytes) → length (st .plans) ≡ length kinds → (k : ℕ) → isKnown k ≡ true → (now : ℕ) (u : Upload)
-    → Agree (turns st s k (stationOf u) (timerTurned u (planOf st k) now)) (onTimer (uploadIn s (not (planOf st k .half)) k u) (view st s) now k)
+    → Agree (afterTurn st s k (stationOf u) (timerTurned u (planOf st k) now)) (onTimer (uploadIn s (not (planOf st k .half)) k u) (view st s) now k)
 unfolding timerTurned onTimer uploadIn
 timer-by st s three k known now Idle = kept st s three k known (stationOf Idle) Silent silent refl
 timer-by st s three k known now (Running r) =
@@ -113,6 +115,6 @@ timer-by st s three k known now (Running r) =
 
 pub timer-agrees :
     (st : State) (s : Bytes) → length (st .plans) ≡ length kinds → (k : ℕ) → isKnown k ≡ true → (now : ℕ)
-    → Agree (timerDone st s now k) (onTimer (model.uploadOf (view st s) k) (view st s) now k)
+    → Agree (afterTimer st s now k) (onTimer (model.uploadOf (view st s) k) (view st s) now k)
 unfolding timerDone
 timer-agrees st s three k known now = rw (upload-shown st s k known) (timer-by st s three k known now (planOf st k .upload))

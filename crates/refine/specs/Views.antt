@@ -2,9 +2,8 @@
 use Prim.Native.Nat.{ℕ}
 use mathlib.Core.Path.{_≡_, refl, ap, _∙_}
 use mathlib.Core.List.{List, map}
-use mathlib.Core.Bool.{true, false, not, cond, _&&_}
+use mathlib.Core.Bool.{true, false, not, cond}
 use lib.ListN.{length, getD, set}
-use lib.Seq.{set-getD}
 use lib.Dec.{eqb}
 use Rattle.rules.specs.Limits.{flight, fence, rally, kinds}
 use Rattle.rules.specs.Payload.{Bytes}
@@ -18,10 +17,8 @@ use Rattle.plan.specs.declared.Plan.{Plan}
 use Rattle.plan.specs.declared.Upload.{Upload}
 use Rattle.places.specs.Places.{length-items}
 use Rattle.plan.specs.View.{emptyPlan, planOf, planIn, uploadIn, view}
-use Rattle.upload.specs.declared.Say.{Say}
-use Rattle.upload.specs.declared.Turned.{Turned}
-use Rattle.upload.specs.Turns.{withUpload, keeps, renews}
-use Rattle.states.specs.Whole.{turnedState}
+use Rattle.upload.specs.Turns.{withUpload}
+use Rattle.upload.specs.Effects.{turnedState, renewedState}
 
 module _ (st : State) (s : Bytes) where
   -- the plan and the upload of a kind, as shown
@@ -36,11 +33,6 @@ module _ (st : State) (s : Bytes) where
   pub length-shown : (k : ℕ) → isKnown k ≡ true → model.lengthOf (view st s .shown) k ≡ planOf st k .len
   length-shown k known = ap (λ (p : model.Plan). length (p .items)) (plan-shown k known) ∙ length-items s (planOf st k .half) k (planOf st k .len)
 
--- a turn that changes nothing
-pub same-state : (st : State) (k : ℕ) (say : Say) → turnedState st k (keeps (planOf st k) say) ≡ st
-unfolding turnedState
-same-state st k say = λ i. record { plans = set-getD (st .plans) k emptyPlan i; current = st .current; begun = st .begun; counts = st .counts }
-
 module _ (st : State) (s : Bytes) (three : length (st .plans) ≡ length kinds) where
   at : (k j : ℕ) (p : Plan) → isKnown k ≡ true → getD (set (st .plans) k p) j emptyPlan ≡ cond (eqb k j) p (planOf st j)
   at k j p known = at-set (st .plans) k j p emptyPlan (rw three (known-below k known))
@@ -53,29 +45,20 @@ module _ (st : State) (s : Bytes) (three : length (st .plans) ≡ length kinds) 
   uploadsWith k p = map (λ (j : ℕ). uploadIn s (not (cond (eqb k j) p (planOf st j) .half)) j (cond (eqb k j) p (planOf st j) .upload)) kinds
 
   view-turned :
-      (k : ℕ) (t : Turned) → isKnown k ≡ true
-      → view (turnedState st k t) s
-      ≡ record {
-        shown =
-            record {
-              plans = shownWith k (t .plan);
-              current = cond (t .renewed && eqb k flight) 0 (st .current);
-              begun = cond (t .renewed && eqb k flight) false (st .begun);
-              counts = cond (t .renewed && eqb k flight) model.noCounts (st .counts);
-            };
-        uploads = uploadsWith k (t .plan);
-      }
-  unfolding view turnedState
-  view-turned k t known = rw (at k flight (t .plan) known, at k fence (t .plan) known, at k rally (t .plan) known)
+      (k : ℕ) (p : Plan) → isKnown k ≡ true
+      → view (turnedState st k p) s
+      ≡ record { shown = record { plans = shownWith k p; current = st .current; begun = st .begun; counts = st .counts }; uploads = uploadsWith k p }
+  unfolding view
+  view-turned k p known = rw (at k flight p known, at k fence p known, at k rally p known)
 
   -- only the upload of one kind changes
   pub view-upload :
-      (k : ℕ) (u : Upload) (say : Say) → isKnown k ≡ true
-      → view (turnedState st k (keeps (withUpload (planOf st k) u) say)) s
+      (k : ℕ) (u : Upload) → isKnown k ≡ true
+      → view (turnedState st k (withUpload (planOf st k) u)) s
       ≡ record { shown = view st s .shown; uploads = set (view st s .uploads) k (uploadIn s (not (planOf st k .half)) k u) }
   unfolding view
-  view-upload k u say known =
-      view-turned k (keeps (withUpload (planOf st k) u) say) known
+  view-upload k u known =
+      view-turned k (withUpload (planOf st k) u) known
       ∙ each-kind
       (λ (k : ℕ). _≡_ {A = Model}
       (record { shown = record { plans = shownWith k (withUpload (planOf st k) u); current = st .current; begun = st .begun; counts = st .counts }; uploads = uploadsWith k (withUpload (planOf st k) u) })
@@ -84,14 +67,14 @@ module _ (st : State) (s : Bytes) (three : length (st .plans) ≡ length kinds) 
 
   -- the plan of one kind is replaced or emptied
   pub view-renewed :
-      (k : ℕ) (p : Plan) (say : Say) → isKnown k ≡ true
-      → view (turnedState st k (renews p say)) s
+      (k : ℕ) (p : Plan) → isKnown k ≡ true
+      → view (renewedState st k p) s
       ≡ record { shown = withPlan k (planIn s k p) (view st s .shown); uploads = set (view st s .uploads) k (uploadIn s (not (p .half)) k (p .upload)) }
-  unfolding view withPlan
-  view-renewed k p say known =
-      view-turned k (renews p say) known
-      ∙ each-kind
+  unfolding view withPlan renewedState
+  view-renewed k p known =
+      rw (at k flight p known, at k fence p known, at k rally p known)
+      (each-kind
       (λ (k : ℕ). _≡_ {A = Model}
       (record { shown = record { plans = shownWith k p; current = cond (eqb k flight) 0 (st .current); begun = cond (eqb k flight) false (st .begun); counts = cond (eqb k flight) model.noCounts (st .counts) }; uploads = uploadsWith k p })
       (record { shown = withPlan k (planIn s k p) (view st s .shown); uploads = set (view st s .uploads) k (uploadIn s (not (p .half)) k (p .upload)) }))
-      refl refl refl k known
+      refl refl refl k known)
