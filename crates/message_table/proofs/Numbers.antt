@@ -10,18 +10,18 @@ use Rattle.rules.specs.Limits.{itemBytes}
 use Rattle.rules.specs.Payload.{Bytes, numberAt}
 use Rattle.message_table.specs.Table.{Owned}
 
-pub filled : (full n : ℕ) (p : Bytes) → n ≡ min (min full (length p)) itemBytes → Owned full p (paste (replicate itemBytes 0) 0 p n)
-filled full n p is i h = go (decLt i n)
+pub filled : (full m n : ℕ) (p b : Bytes) → m ≡ min full (length p) → n ≡ min m itemBytes → b ≡ paste (replicate itemBytes 0) 0 p n → Owned full p b
+filled full m n p b least all is = record { byte = λ i h. ap (λ (d : Bytes). getD d i 0) is ∙ go i h (decLt i n) }
   where
     zeros : Bytes
     zeros = replicate itemBytes 0
 
-    go : Dec (i < n) → getD (take n p ++ drop (0 + n) zeros) i 0 ≡ getD (take full p) i 0
-    go (yes below) =
+    go : (i : ℕ) → i < itemBytes → Dec (i < n) → getD (take n p ++ drop (0 + n) zeros) i 0 ≡ getD (take full p) i 0
+    go i h (yes below) =
         List·getD-append (take n p) (drop (0 + n) zeros) 0 i (omega (arith, length-take n p))
         ∙ getD-take n p i 0 below
         ∙ sym (getD-take full p i 0 (omega arith))
-    go (no past) =
+    go i h (no past) =
         let k : ℕ = i - length (take n p) in
         ap (λ (j : ℕ). getD (take n p ++ drop (0 + n) zeros) j 0) (omega (arith, length-take n p))
         ∙ getD-append-add (take n p) (drop (0 + n) zeros) k 0

@@ -1,19 +1,22 @@
 -- What holds of every id, shown row by row: each law of the table is computed at the nine ids and holds of all others.
-use Prim.Native.Nat.{ℕ, zero, suc, _+_, _≤_, _<_}
+use Prim.Native.Nat.{ℕ, zero, suc, _+_, _^_, _≤_, _<_}
 use mathlib.Core.Path.{_≡_, refl, ap, sym, subst, _∙_}
 use mathlib.Core.List.{List, [], _∷_}
-use mathlib.Core.Bool.{Bool, true, false, _&&_}
+use mathlib.Core.Bool.{Bool, true, false, not, _&&_}
 use native.Mathlib.Nat.{add-zero}
 use native.Mathlib.Numerals.{add-one}
 use native.Mathlib.Omega.{arith}
 use lib.Dec.{T, eqb, ltb, leb, ltb→lt, leb→le, lit<, lit≤}
 use lib.ListN.{length, getD, take, drop, drop-of-length-le, length-take, List·getD-eq-default}
 use lib.Seq.{drop-cons, getD-take}
+use mir.Syntax.{Width}
+use mir.Val.{bits, Fits}
+use borrow.Author.Needs.{fits-under}
 use borrow.Author.Tests.{eqb-true, eqb-false, ne-eqb, eq-eqb}
-use Rattle.rules.specs.Limits.{itemBytes}
+use Rattle.rules.specs.Limits.{byteValues, itemBytes}
 use Rattle.rules.specs.Payload.{Bytes, numberAt}
-use Rattle.rules.specs.Layouts.{Field, layoutOf, values}
-use Rattle.rules.specs.Messages.{unknown, messageOf, decode}
+use Rattle.rules.specs.Layouts.{Field, layoutOf, values, currentId, statustextId}
+use Rattle.rules.specs.Messages.{station, unknown, messageOf, decode}
 use Rattle.fields.specs.Numbers.{number-one}
 use Rattle.message_table.specs.Table.{rowIn, rowOf, isRead, targetOf, kindOf, headOf, Owned, ReadAs}
 use Rattle.message_table.specs.declared.Received.{Received}
@@ -82,70 +85,51 @@ pub full-row : (id : ℕ) → getD fulls (rowOf id) 0 ≡ layoutOf id .full
 unfolding rowOf layoutOf
 full-row = by-row (λ id. getD fulls (rowOf id) 0 ≡ layoutOf id .full) refl refl refl refl refl refl refl refl refl (λ id no. rw (no .row, no .full))
 
-abbrev reads : List Bool
-reads = true ∷ false ∷ true ∷ true ∷ true ∷ true ∷ true ∷ true ∷ false ∷ false ∷ []
+-- the test of what is read
+abbrev readBy : (id row : ℕ) → Bool
+readBy id row = ltb row 9 && not (eqb id currentId) && not (eqb id statustextId)
 
-read-row : (id : ℕ) (p : Bytes) → getD reads (rowOf id) false ≡ isRead (decode id p)
+read-row : (id : ℕ) (p : Bytes) → readBy id (rowOf id) ≡ isRead (decode id p)
 unfolding rowOf decode messageOf
-read-row id p = by-row (λ id. getD reads (rowOf id) false ≡ isRead (decode id p)) refl refl refl refl refl refl refl refl refl (λ id no. rw (no .row, no .message p)) id
+read-row id p = by-row (λ id. readBy id (rowOf id) ≡ isRead (decode id p)) refl refl refl refl refl refl refl refl refl (λ id no. rw (no .row, no .message p)) id
 
 -- where the field of a column stands in a message: in a byte that is not its own where there is none
-abbrev pub systems : List ℕ
-systems = 2 ∷ 37 ∷ 0 ∷ 2 ∷ 0 ∷ 0 ∷ 2 ∷ 32 ∷ 37 ∷ 37 ∷ []
-
-abbrev pub components : List ℕ
-components = 3 ∷ 37 ∷ 1 ∷ 3 ∷ 1 ∷ 1 ∷ 3 ∷ 33 ∷ 37 ∷ 37 ∷ []
+abbrev pub targets : List ℕ
+targets = 2 ∷ 36 ∷ 0 ∷ 2 ∷ 0 ∷ 0 ∷ 2 ∷ 32 ∷ 36 ∷ 36 ∷ []
 
 abbrev pub kinds : List ℕ
-kinds = 37 ∷ 37 ∷ 2 ∷ 4 ∷ 2 ∷ 3 ∷ 4 ∷ 37 ∷ 37 ∷ 37 ∷ []
-
--- the byte of a column
-abbrev byteOf : List ℕ → ℕ → Bytes → ℕ
-byteOf column id b = getD b (getD column (rowOf id) 0) 0
+kinds = 36 ∷ 36 ∷ 2 ∷ 4 ∷ 2 ∷ 3 ∷ 4 ∷ 37 ∷ 36 ∷ 36 ∷ []
 
 not-read : {A : Type 0} → false ≡ true → A
 not-read e = absurd (subst T (sym e) tt)
 
 -- of the messages that are read, each column names the byte that the decoded message has
 
-system-row : (id : ℕ) (b : Bytes) → isRead (decode id b) ≡ true → byteOf systems id b ≡ targetOf (decode id b) .system
+target-row : (id : ℕ) (b : Bytes) → isRead (decode id b) ≡ true → station (getD b (getD targets (rowOf id) 0) 0) (getD b (getD targets (rowOf id) 0 + 1) 0) ≡ targetOf (decode id b)
 unfolding rowOf layoutOf decode messageOf values
-system-row id b =
-    by-row (λ id. isRead (decode id b) ≡ true → byteOf systems id b ≡ targetOf (decode id b) .system)
-    (λ e. sym (number-one 2 b))
+target-row id b =
+    by-row (λ id. isRead (decode id b) ≡ true → station (getD b (getD targets (rowOf id) 0) 0) (getD b (getD targets (rowOf id) 0 + 1) 0) ≡ targetOf (decode id b))
+    (λ e. pair 2)
     not-read
-    (λ e. sym (number-one 0 b))
-    (λ e. sym (number-one 2 b))
-    (λ e. sym (number-one 0 b))
-    (λ e. sym (number-one 0 b))
-    (λ e. sym (number-one 2 b))
-    (λ e. sym (number-one 32 b))
+    (λ e. pair 0)
+    (λ e. pair 2)
+    (λ e. pair 0)
+    (λ e. pair 0)
+    (λ e. pair 2)
+    (λ e. pair 32)
     not-read
     (λ id no e. not-read (sym (ap isRead (no .message b)) ∙ e))
     id
-
-component-row : (id : ℕ) (b : Bytes) → isRead (decode id b) ≡ true → byteOf components id b ≡ targetOf (decode id b) .component
-unfolding rowOf layoutOf decode messageOf values
-component-row id b =
-    by-row (λ id. isRead (decode id b) ≡ true → byteOf components id b ≡ targetOf (decode id b) .component)
-    (λ e. sym (number-one 3 b))
-    not-read
-    (λ e. sym (number-one 1 b))
-    (λ e. sym (number-one 3 b))
-    (λ e. sym (number-one 1 b))
-    (λ e. sym (number-one 1 b))
-    (λ e. sym (number-one 3 b))
-    (λ e. sym (number-one 33 b))
-    not-read
-    (λ id no e. not-read (sym (ap isRead (no .message b)) ∙ e))
-    id
+  where
+    pair : (at : ℕ) → station (getD b at 0) (getD b (at + 1) 0) ≡ station (numberAt 1 at b) (numberAt 1 (at + 1) b)
+    pair at = λ i. station (sym (number-one at b) i) (sym (number-one (at + 1) b) i)
 
 -- SET_CURRENT has no kind: the byte named is past its full length
-kind-row : (id : ℕ) (p b : Bytes) → Owned (layoutOf id .full) p b → isRead (decode id b) ≡ true → byteOf kinds id b ≡ kindOf (decode id b)
+kind-row : (id : ℕ) (p b : Bytes) → Owned (layoutOf id .full) p b → isRead (decode id b) ≡ true → getD b (getD kinds (rowOf id) 0) 0 ≡ kindOf (decode id b)
 unfolding rowOf layoutOf decode messageOf values
 kind-row id p b =
-    by-row (λ id. Owned (layoutOf id .full) p b → isRead (decode id b) ≡ true → byteOf kinds id b ≡ kindOf (decode id b))
-    (λ own e. own 37 (lit< tt) ∙ List·getD-eq-default (take 4 p) 0 (omega (arith, length-take 4 p)))
+    by-row (λ id. Owned (layoutOf id .full) p b → isRead (decode id b) ≡ true → getD b (getD kinds (rowOf id) 0) 0 ≡ kindOf (decode id b))
+    (λ own e. own .byte 36 (lit< tt) ∙ List·getD-eq-default (take 4 p) 0 (omega (arith, length-take 4 p)))
     (λ own e. not-read e)
     (λ own e. sym (number-one 2 b))
     (λ own e. sym (number-one 4 b))
@@ -157,15 +141,22 @@ kind-row id p b =
     (λ id no own e. not-read (sym (ap isRead (no .message b)) ∙ e))
     id
 
--- each column names a byte that is there
+-- each number of a column is that of a byte that is there, and fits a byte
+
 abbrev below : ℕ → List ℕ → Bool
 below limit [] = true
 below limit (n ∷ ns) = ltb n limit && below limit ns
 
-pub all-below : (limit : ℕ) (ns : List ℕ) → T (below limit ns) → 0 < limit → (k : ℕ) → getD ns k 0 < limit
-all-below limit [] t some k = some
-all-below limit (n ∷ ns) t some zero = ltb→lt n limit (left (ltb n limit) (below limit ns) t)
-all-below limit (n ∷ ns) t some (suc k) = all-below limit ns (right (ltb n limit) (below limit ns) t) some k
+pub all-below : (limit : ℕ) (ns : List ℕ) (k : ℕ) → T (below limit ns) → 0 < limit → getD ns k 0 < limit
+all-below limit [] k t some = some
+all-below limit (n ∷ ns) zero t some = ltb→lt n limit (left (ltb n limit) (below limit ns) t)
+all-below limit (n ∷ ns) (suc k) t some = all-below limit ns k (right (ltb n limit) (below limit ns) t) some
+
+pub next-below : (limit : ℕ) (ns : List ℕ) (k : ℕ) → T (below limit ns) → 0 < limit → getD ns k 0 + 1 < suc limit
+next-below limit ns k t some = omega (arith, all-below limit ns k t some)
+
+pub column-fits : (w : Width) (ns : List ℕ) (k : ℕ) → T (below byteValues ns) → T (leb byteValues (2 ^ bits w)) → Fits w (getD ns k 0)
+column-fits w ns k t wide = fits-under w (getD ns k 0) byteValues (all-below byteValues ns k t (lit< tt)) wide
 
 -- ---- a message has all its fields within its full length
 
@@ -206,33 +197,33 @@ decode-own : (id : ℕ) (p b : Bytes) → Owned (layoutOf id .full) p b → isRe
 unfolding decode
 decode-own id p b own read =
     let full : ℕ = layoutOf id .full in
-    let same : (i : ℕ) → i < full → getD b i 0 ≡ getD p i 0 = λ i h. own i (omega (arith, full-read id p read)) ∙ getD-take full p i 0 h in
+    let same : (i : ℕ) → i < full → getD b i 0 ≡ getD p i 0 = λ i h. own .byte i (omega (arith, full-read id p read)) ∙ getD-take full p i 0 h in
     ap (messageOf id) (values-same full (layoutOf id .fields) p b same (all-within id))
 
 -- ---- what is received, by the row of an id and the bytes that are its own
 
-abbrev receivedBy : ℕ → Bytes → Received
-receivedBy row b =
+abbrev receivedBy : (id row : ℕ) → Bytes → Received
+receivedBy id row b =
     record {
-      read = getD reads row false;
-      head = record { system = getD b (getD systems row 0) 0; component = getD b (getD components row 0) 0; kind = getD b (getD kinds row 0) 0 };
+      read = readBy id row;
+      head = record { system = getD b (getD targets row 0) 0; component = getD b (getD targets row 0 + 1) 0; kind = getD b (getD kinds row 0) 0 };
       own = b;
     }
 
-pub received : (id row : ℕ) (p b : Bytes) → row ≡ rowOf id → Owned (getD fulls row 0) p b → ReadAs id p (receivedBy row b)
-received id row p b e = subst (λ (k : ℕ). Owned (getD fulls k 0) p b → ReadAs id p (receivedBy k b)) (sym e) at-row
+pub received : (id row : ℕ) (p b : Bytes) → row ≡ rowOf id → Owned (getD fulls row 0) p b → ReadAs id p (receivedBy id row b)
+received id row p b e = subst (λ (k : ℕ). Owned (getD fulls k 0) p b → ReadAs id p (receivedBy id k b)) (sym e) at-row
   where
-    at-row : Owned (getD fulls (rowOf id) 0) p b → ReadAs id p (receivedBy (rowOf id) b)
+    at-row : Owned (getD fulls (rowOf id) 0) p b → ReadAs id p (receivedBy id (rowOf id) b)
     at-row part =
         let own : Owned (layoutOf id .full) p b = subst (λ (n : ℕ). Owned n p b) (full-row id) part in
-        let same : getD reads (rowOf id) false ≡ true → decode id b ≡ decode id p = λ is. decode-own id p b own (sym (read-row id p) ∙ is) in
-        let read : getD reads (rowOf id) false ≡ true → isRead (decode id b) ≡ true = λ is. ap isRead (same is) ∙ sym (read-row id p) ∙ is in
+        let same : readBy id (rowOf id) ≡ true → decode id b ≡ decode id p = λ is. decode-own id p b own (sym (read-row id p) ∙ is) in
+        let read : readBy id (rowOf id) ≡ true → isRead (decode id b) ≡ true = λ is. ap isRead (same is) ∙ sym (read-row id p) ∙ is in
         record {
           read = read-row id p;
           decodes = same;
           heads =
               λ is.
-              (λ i. record { system = system-row id b (read is) i; component = component-row id b (read is) i; kind = kind-row id p b own (read is) i })
+              (λ i. record { system = target-row id b (read is) i .system; component = target-row id b (read is) i .component; kind = kind-row id p b own (read is) i })
               ∙ ap headOf (same is);
         }
 

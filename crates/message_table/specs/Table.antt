@@ -69,8 +69,8 @@ headOf m = record { system = targetOf m .system; component = targetOf m .compone
 
 -- "missing bytes are zero", "bytes past the full length are ignored": the bytes b, as many as the longest message has that is read, are those of a payload up to
 -- a full length
-abbrev pub Owned : (full : ℕ) (p b : Bytes) → Type 0
-Owned full p b = (i : ℕ) → i < itemBytes → getD b i 0 ≡ getD (take full p) i 0
+pub record Owned (full : ℕ) (p b : Bytes) : Type 0 where
+  pub byte : (i : ℕ) → i < itemBytes → getD b i 0 ≡ getD (take full p) i 0
 
 -- what is received is what the payload says
 pub record ReadAs (id : ℕ) (p : Bytes) (r : Received) : Type 0 where

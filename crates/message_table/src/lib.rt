@@ -1,4 +1,4 @@
-// The constant table of messages: ids, full lengths, which are read here, and where target system, component and kind stand; and a payload as it is read by it.
+// The constant table of messages: ids, full lengths, and where target system, component and kind stand; and a payload as it is read by it.
 ghost use mathlib.Core.Path.{_≡_};
 ghost use Prim.Native.Nat.{_<_, min};
 ghost use Rattle.rules.specs.Layouts.{layoutOf};
@@ -38,25 +38,11 @@ const IDS: [u8; 9] = [
 // One number more in each column: that of every id that is not in the table.
 const FULLS: [u8; 10] = [4, 18, 3, 9, 3, 8, 5, 38, 54, 0];
 
-// CURRENT and STATUSTEXT are only written.
-const READ: [bool; 10] = [
-    true,
-    false,
-    true,
-    true,
-    true,
-    true,
-    true,
-    true,
-    false,
-    false,
-];
-// A message without the field has NONE, a byte that none but ITEM_INT reaches.
-const NONE: u8 = 37;
+// A message without the field has NONE: of those that are read only SET_CURRENT, which has no kind, and whose bytes end before it.
+const NONE: u8 = 36;
 
-const SYSTEMS: [u8; 10] = [2, NONE, 0, 2, 0, 0, 2, 32, NONE, NONE];
-
-const COMPONENTS: [u8; 10] = [3, NONE, 1, 3, 1, 1, 3, 33, NONE, NONE];
+// Where the target's system stands, its component behind it, and the kind.
+const TARGETS: [u8; 10] = [2, NONE, 0, 2, 0, 0, 2, 32, NONE, NONE];
 
 const KINDS: [u8; 10] = [NONE, NONE, 2, 4, 2, 3, 4, 37, NONE, NONE];
 
@@ -119,14 +105,13 @@ pub fn receive(id: u32, payload: &[u8]) -> Received
 {
     let row = row_of(id);
     let own = own_bytes(FULLS[row] as usize, payload);
+    let target = TARGETS[row] as usize;
     let head = Head {
-        system: own[SYSTEMS[row] as usize],
-        component: own[COMPONENTS[row] as usize],
+        system: own[target],
+        component: own[target + 1],
         kind: own[KINDS[row] as usize],
     };
-    Received {
-        read: READ[row],
-        head,
-        own,
-    }
+    // CURRENT and STATUSTEXT are only written.
+    let read = (row < 9) & (id != CURRENT_ID) & (id != STATUSTEXT_ID);
+    Received { read, head, own }
 }

@@ -1,9 +1,4 @@
 -- `message_table::own_bytes` meets its contract: as many of the payload's first bytes stand in the place of zeros as it has, up to the full length.
-use mathlib.Core.Path.{ap, _∙_}
-use native.Mathlib.Omega.{arith}
-use lib.ListN.{getD}
-use denote.Ref.{now}
-use Rattle.rules.specs.Payload.{Bytes}
 use Rattle.message_table.proofs.Numbers.{filled}
 use borrow.Author.Needs.{needs}
 use Rattle.message_table.proofs.own_bytes.Statement.{statement}
@@ -22,10 +17,7 @@ copy-requires : tie.Need-copy-requires
 copy-requires c κs = search needs
 
 returns : tie.Need-returns
-returns c i h =
-    let a = c .before .before .before .before .before .before .args in
-    let n = c .before .before .before .least2 .result in
-    ap (λ (b : Bytes). getD b i 0) (c .before .copy .ensures) ∙ filled (a .full) n (now (a .payload)) (omega arith) i h
+returns c = search (filled, needs)
 
 pub own-bytes-spec : {M : Type 1} → statement M
 own-bytes-spec =

@@ -3,12 +3,11 @@ use Prim.Native.Nat.{_+_, _-_, _≤_}
 use mathlib.Core.Path.{_≡_, sym, _∙_}
 use native.Mathlib.Nat.{zero-add}
 use native.Mathlib.Omega.{arith}
-use lib.Dec.{lit<, lit≤}
+use lib.Dec.{lit≤}
 use lib.ListN.{drop}
 use borrow.Author.Needs.{needs}
-use Rattle.rules.specs.Limits.{byteValues}
 use Rattle.message_table.specs.Table.{ids, rowIn, rowOf}
-use Rattle.message_table.proofs.Rows.{all-below, found, passed, past}
+use Rattle.message_table.proofs.Rows.{column-fits, found, passed, past}
 use Rattle.message_table.proofs.row_of.Statement.{statement}
 use Rattle.message_table.proofs.row_of.Tie as tie
 
@@ -26,7 +25,7 @@ array-read-if1 : tie.Need-array-read-if1 Inv-loop μ-loop
 array-read-if1 c = search needs
 
 cast-if1 : tie.Need-cast-if1 Inv-loop μ-loop
-cast-if1 c = record { fits = omega (arith, all-below byteValues ids tt (lit< tt) (c .before .loop .row)) }
+cast-if1 c = column-fits _ ids (c .before .loop .row) tt tt
 
 returns : tie.Need-returns Inv-loop μ-loop
 returns c =
