@@ -1,17 +1,9 @@
-// Numbers in bytes, a payload's or the store's, little-endian: a byte read from bytes of any length, where a missing one is zero, numbers read where all their
-// bytes are there, and written as bytes.
+// Numbers in bytes, little-endian: read where all their bytes are there, and written as bytes.
 ghost use mathlib.Core.Path.{_≡_};
 ghost use mathlib.Core.List.{[], _∷_};
 ghost use Prim.Native.Nat.{_+_, _≤_};
-ghost use lib.ListN.{length, getD};
+ghost use lib.ListN.{length};
 ghost use Rattle.rules.specs.Payload.{numberAt, bytesOf};
-
-// The byte at an offset.
-pub fn byte_at(p: &[u8], at: usize) -> u8
-    ensures { λ r. ⌜ r ≡ getD (now (p .entry)) at 0 ⌝ }
-{
-    if at < p.len() { p[at] } else { 0 }
-}
 
 fn wide16(b: u8) -> u16
     ensures { λ r. ⌜ r ≡ b ⌝ }

@@ -25,7 +25,7 @@ wide16-requires-2 c κs = search needs
 mul-result : tie.Need-mul-result
 mul-result c =
     let a = c .before .before .before .before .before .args in
-    omega (arith, c .before .shared-slice-known3 .given (a .at + 1))
+    omega (arith, c .before .shared-slice-known3 .given (a .at), c .before .shared-slice-known3 .given (a .at + 1))
 
 add-result : tie.Need-add-result
 add-result c =
