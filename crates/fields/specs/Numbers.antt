@@ -1,23 +1,16 @@
 -- Laws of the numbers in bytes, over their width and offset.
-use Prim.Native.Nat.{ℕ, zero, suc, _+_, _*_, _^_, _≤_}
+use Prim.Native.Nat.{ℕ, zero, suc, _+_, _*_, _^_}
 use mathlib.Core.Path.{_≡_, ap, ap₂, sym, _∙_}
 use native.Mathlib.Nat.{zero-add, add-zero, suc-add, mul-comm, mul-assoc, pow-zero, pow-suc}
 use native.Mathlib.Omega.{arith}
-use lib.ListN.{length, getD, List·getD-eq-default}
+use lib.ListN.{getD}
 use Rattle.rules.specs.Limits.{byteValues}
 use Rattle.rules.specs.Payload.{Bytes, numberAt}
-
--- "missing bytes are zero"
-pub byte-missing : (p : Bytes) (at : ℕ) → length p ≤ at → 0 ≡ getD p at 0
-byte-missing p at h = sym (List·getD-eq-default p 0 h)
 
 -- a number of one byte is that byte
 pub number-one : (at : ℕ) (p : Bytes) → numberAt 1 at p ≡ getD p at 0
 unfolding numberAt
 number-one at p = omega arith
-
-pub as-number : {r : ℕ} (at : ℕ) (p : Bytes) → r ≡ getD p at 0 → r ≡ numberAt 1 at p
-as-number at p e = e ∙ sym (number-one at p)
 
 -- a number is that of its low bytes and, above it, that of the others
 number-split : (low high at : ℕ) (p : Bytes) → numberAt (low + high) at p ≡ numberAt low at p + byteValues ^ low * numberAt high (at + low) p

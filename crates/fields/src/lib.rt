@@ -1,18 +1,9 @@
-// Numbers in bytes, a payload's or the store's, little-endian: read from bytes of any length, where missing ones are zero, read where all are there, and written
-// as bytes.
+// Numbers in bytes, little-endian: read where all their bytes are there, and written as bytes.
 ghost use mathlib.Core.Path.{_≡_};
 ghost use mathlib.Core.List.{[], _∷_};
 ghost use Prim.Native.Nat.{_+_, _≤_};
-ghost use lib.ListN.{length, getD};
-ghost use Rattle.rules.specs.Limits.{storeBytes};
+ghost use lib.ListN.{length};
 ghost use Rattle.rules.specs.Payload.{numberAt, bytesOf};
-
-// The byte at an offset.
-pub fn byte_at(p: &[u8], at: usize) -> u8
-    ensures { λ r. ⌜ r ≡ getD (now (p .entry)) at 0 ⌝ }
-{
-    if at < p.len() { p[at] } else { 0 }
-}
 
 fn wide16(b: u8) -> u16
     ensures { λ r. ⌜ r ≡ b ⌝ }
@@ -26,48 +17,32 @@ fn wide32(n: u16) -> u32
     n as u32
 }
 
-// The 16-bit number at an offset, which is within the store's length.
-pub fn u16_at(p: &[u8], at: usize) -> u16
-    requires { ⌜ at + 2 ≤ storeBytes ⌝ }
-    ensures { λ r. ⌜ r ≡ numberAt 2 at (now (p .entry)) ⌝ }
-{
-    wide16(byte_at(p, at)) + 256 * wide16(byte_at(p, at + 1))
-}
-
-// The 32-bit number at an offset, also the bit pattern of a float or a signed number.
-pub fn u32_at(p: &[u8], at: usize) -> u32
-    requires { ⌜ at + 4 ≤ storeBytes ⌝ }
-    ensures { λ r. ⌜ r ≡ numberAt 4 at (now (p .entry)) ⌝ }
-{
-    wide32(u16_at(p, at)) + 65536 * wide32(u16_at(p, at + 2))
-}
-
 fn wide64(n: u32) -> u64
     ensures { λ r. ⌜ r ≡ n ⌝ }
 {
     n as u64
 }
 
-// The number in two bytes, in four, and in eight, all of which are there: the compiler makes it one load.
-fn pair_at(bytes: &[u8], at: usize) -> u16
-    requires { ⌜ at + 2 ≤ length (now bytes) ⌝ }
-    ensures { λ r. ⌜ r ≡ numberAt 2 at (now (bytes .entry)) ⌝ }
+// The number in two bytes, in four, and in eight, all of which are there; also the bit pattern of a float or a signed number. The compiler makes it one load.
+pub fn u16_at(p: &[u8], at: usize) -> u16
+    requires { ⌜ at + 2 ≤ length (now p) ⌝ }
+    ensures { λ r. ⌜ r ≡ numberAt 2 at (now (p .entry)) ⌝ }
 {
-    wide16(bytes[at]) + 0x100 * wide16(bytes[at + 1])
+    wide16(p[at]) + 0x100 * wide16(p[at + 1])
 }
 
-fn half_at(bytes: &[u8], at: usize) -> u32
-    requires { ⌜ at + 4 ≤ length (now bytes) ⌝ }
-    ensures { λ r. ⌜ r ≡ numberAt 4 at (now (bytes .entry)) ⌝ }
+pub fn u32_at(p: &[u8], at: usize) -> u32
+    requires { ⌜ at + 4 ≤ length (now p) ⌝ }
+    ensures { λ r. ⌜ r ≡ numberAt 4 at (now (p .entry)) ⌝ }
 {
-    wide32(pair_at(bytes, at)) + 0x1_0000 * wide32(pair_at(bytes, at + 2))
+    wide32(u16_at(p, at)) + 0x1_0000 * wide32(u16_at(p, at + 2))
 }
 
-pub fn word_at(bytes: &[u8], at: usize) -> u64
-    requires { ⌜ at + 8 ≤ length (now bytes) ⌝ }
-    ensures { λ r. ⌜ r ≡ numberAt 8 at (now (bytes .entry)) ⌝ }
+pub fn word_at(p: &[u8], at: usize) -> u64
+    requires { ⌜ at + 8 ≤ length (now p) ⌝ }
+    ensures { λ r. ⌜ r ≡ numberAt 8 at (now (p .entry)) ⌝ }
 {
-    wide64(half_at(bytes, at)) + 0x1_0000_0000 * wide64(half_at(bytes, at + 4))
+    wide64(u32_at(p, at)) + 0x1_0000_0000 * wide64(u32_at(p, at + 4))
 }
 
 // A number's bytes, lowest first.

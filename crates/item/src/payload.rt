@@ -1,19 +1,22 @@
-// An item in the 38 bytes of ITEM_INT: read from a payload or a stored item, and written from the item's patterns.
+// An item in the 38 bytes of ITEM_INT or of a stored item: read from them, and written from the item's patterns.
 ghost use mathlib.Core.Path.{_≡_};
+ghost use Prim.Native.Nat.{_≤_};
+ghost use lib.ListN.{length};
+ghost use Rattle.rules.specs.Limits.{itemBytes};
 ghost use Rattle.rules.specs.Messages.{station, itemInt, itemIn};
 ghost use Rattle.item.specs.Patterns.{itemFor, patterns};
 ghost use Rattle.fields.specs.Packed.{BytesOf};
 use crate::Item;
 use crate::made;
-use fields::byte_at;
 use fields::bytes16;
 use fields::bytes32;
 use fields::u16_at;
 use fields::u32_at;
 use limits::ITEM_BYTES;
 
-// The item in a payload of ITEM_INT, or in the 38 bytes of a stored item.
+// The item in the 38 bytes of ITEM_INT or of a stored item.
 pub fn item_at(p: &[u8]) -> Item
+    requires { ⌜ itemBytes ≤ length (now p) ⌝ }
     ensures { λ r. ⌜ r ≡ itemFor (itemIn (now (p .entry))) ⌝ }
 {
     made(
@@ -26,9 +29,9 @@ pub fn item_at(p: &[u8]) -> Item
         u32_at(p, 24),
         u16_at(p, 28),
         u16_at(p, 30),
-        byte_at(p, 34),
-        byte_at(p, 36),
-        byte_at(p, 37),
+        p[34],
+        p[36],
+        p[37],
     )
 }
 

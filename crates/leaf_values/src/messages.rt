@@ -1,4 +1,6 @@
 // A message read, and written again; of a message that is only written, MAVLink's own test values.
+use wire::OWN_BYTES;
+
 fn current() -> wire::Current {
     wire::Current {
         seq: 17235,
@@ -29,8 +31,8 @@ pub fn few(id: u32, n: u64, a: u64, b: u64, c: u64, d: u64, e: u64) -> [u64; NUM
     [id as u64, n, a, b, c, d, e, 0, 0, 0, 0, 0, 0, 0, 0, 0, 0]
 }
 
-fn item_shown(p: &[u8], n: u64) -> [u64; NUMBERS] {
-    let m = wire::read_item_int(p);
+fn item_shown(own: &[u8; OWN_BYTES], n: u64) -> [u64; NUMBERS] {
+    let m = wire::read_item_int(own);
     let i = m.item;
     [
         73,
@@ -54,10 +56,10 @@ fn item_shown(p: &[u8], n: u64) -> [u64; NUMBERS] {
 }
 
 // A message that is only read.
-fn read_only(id: u32, p: &[u8]) -> [u64; NUMBERS] {
+fn read_only(id: u32, own: &[u8; OWN_BYTES]) -> [u64; NUMBERS] {
     match id {
         wire::SET_CURRENT_ID => {
-            let m = wire::read_set_current(p);
+            let m = wire::read_set_current(own);
             few(
                 id,
                 0,
@@ -69,7 +71,7 @@ fn read_only(id: u32, p: &[u8]) -> [u64; NUMBERS] {
             )
         }
         wire::REQUEST_LIST_ID => {
-            let m = wire::read_request_list(p);
+            let m = wire::read_request_list(own);
             few(
                 id,
                 0,
@@ -81,7 +83,7 @@ fn read_only(id: u32, p: &[u8]) -> [u64; NUMBERS] {
             )
         }
         _ => {
-            let m = wire::read_clear_all(p);
+            let m = wire::read_clear_all(own);
             few(
                 id,
                 0,
@@ -95,7 +97,8 @@ fn read_only(id: u32, p: &[u8]) -> [u64; NUMBERS] {
     }
 }
 
-pub fn shown(id: u32, p: &[u8], to: &mut [u8]) -> [u64; NUMBERS] {
+// A message of these own bytes.
+fn own_shown(id: u32, own: &[u8; OWN_BYTES], to: &mut [u8]) -> [u64; NUMBERS] {
     match id {
         wire::CURRENT_ID => few(
             id,
@@ -116,7 +119,7 @@ pub fn shown(id: u32, p: &[u8], to: &mut [u8]) -> [u64; NUMBERS] {
             0,
         ),
         wire::COUNT_ID => {
-            let m = wire::read_count(p);
+            let m = wire::read_count(own);
             let n = reply::write_count(m, to);
             few(
                 id,
@@ -129,7 +132,7 @@ pub fn shown(id: u32, p: &[u8], to: &mut [u8]) -> [u64; NUMBERS] {
             )
         }
         wire::ACK_ID => {
-            let m = wire::read_ack(p);
+            let m = wire::read_ack(own);
             let n = reply::write_ack(m, to);
             few(
                 id,
@@ -142,7 +145,7 @@ pub fn shown(id: u32, p: &[u8], to: &mut [u8]) -> [u64; NUMBERS] {
             )
         }
         wire::REQUEST_INT_ID => {
-            let m = wire::read_request_int(p);
+            let m = wire::read_request_int(own);
             let n = reply::write_request_int(m, to);
             few(
                 id,
@@ -155,9 +158,14 @@ pub fn shown(id: u32, p: &[u8], to: &mut [u8]) -> [u64; NUMBERS] {
             )
         }
         wire::ITEM_INT_ID => {
-            let n = reply::write_item_int(wire::read_item_int(p), to);
-            item_shown(p, n as u64)
+            let n = reply::write_item_int(wire::read_item_int(own), to);
+            item_shown(own, n as u64)
         }
-        _ => read_only(id, p),
+        _ => read_only(id, own),
     }
+}
+
+pub fn shown(id: u32, p: &[u8], to: &mut [u8]) -> [u64; NUMBERS] {
+    let got = wire::receive(id, p);
+    own_shown(id, &got.own, to)
 }

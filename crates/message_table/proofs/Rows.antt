@@ -1,20 +1,26 @@
 -- What holds of every id, shown row by row: each law of the table is computed at the nine ids and holds of all others.
-use Prim.Native.Nat.{ℕ, _+_, _≤_, _<_}
-use mathlib.Core.Path.{_≡_, refl, ap, sym, subst}
+use Prim.Native.Nat.{ℕ, zero, suc, _+_, _^_, _≤_, _<_}
+use mathlib.Core.Path.{_≡_, refl, ap, sym, subst, _∙_}
 use mathlib.Core.List.{List, [], _∷_}
-use mathlib.Core.Bool.{Bool, true, false, _&&_}
+use mathlib.Core.Bool.{Bool, true, false, not, _&&_}
 use native.Mathlib.Nat.{add-zero}
 use native.Mathlib.Numerals.{add-one}
 use native.Mathlib.Omega.{arith}
-use lib.Dec.{T, eqb, leb, leb→le, lit<, lit≤}
-use lib.ListN.{length, getD, take, drop, drop-of-length-le}
-use lib.Seq.{drop-cons}
+use lib.Dec.{T, eqb, ltb, leb, ltb→lt, leb→le, lit<, lit≤}
+use lib.ListN.{length, getD, take, drop, drop-of-length-le, length-take, List·getD-eq-default}
+use lib.Seq.{drop-cons, getD-take}
+use mir.Syntax.{Width}
+use mir.Val.{bits, Fits}
+use borrow.Author.Needs.{fits-under}
 use borrow.Author.Tests.{eqb-true, eqb-false, ne-eqb, eq-eqb}
+use Rattle.rules.specs.Limits.{byteValues, itemBytes}
 use Rattle.rules.specs.Payload.{Bytes, numberAt}
-use Rattle.rules.specs.Layouts.{Field, layoutOf, values}
-use Rattle.rules.specs.Messages.{unknown, messageOf, decode}
-use Rattle.message_table.specs.Table.{rowIn, rowOf, isRead, targetOf, kindOf}
-use Rattle.message_table.proofs.Numbers.{number-take, byte-past, byte-within}
+use Rattle.rules.specs.Layouts.{Field, layoutOf, values, currentId, statustextId}
+use Rattle.rules.specs.Messages.{station, unknown, messageOf, decode}
+use Rattle.fields.specs.Numbers.{number-one}
+use Rattle.message_table.specs.Table.{rowIn, rowOf, isRead, targetOf, kindOf, headOf, Owned, ReadAs}
+use Rattle.message_table.specs.declared.Received.{Received}
+use Rattle.message_table.proofs.Numbers.{number-same}
 
 left : (a b : Bool) → T (a && b) → T a
 left true b t = tt
@@ -36,7 +42,7 @@ other : (k id : ℕ) → (id ≡ k → ⊥) → eqb k id ≡ false
 other k id n = ne-eqb k id (λ e. n (sym e))
 
 -- what is known of an id that has no row
-pub record NoRow (id : ℕ) : Type 0 where
+record NoRow (id : ℕ) : Type 0 where
   pub row : rowOf id ≡ 9
   pub full : layoutOf id .full ≡ 0
   pub fields : layoutOf id .fields ≡ []
@@ -79,74 +85,78 @@ pub full-row : (id : ℕ) → getD fulls (rowOf id) 0 ≡ layoutOf id .full
 unfolding rowOf layoutOf
 full-row = by-row (λ id. getD fulls (rowOf id) 0 ≡ layoutOf id .full) refl refl refl refl refl refl refl refl refl (λ id no. rw (no .row, no .full))
 
-abbrev pub reads : List Bool
-reads = true ∷ false ∷ true ∷ true ∷ true ∷ true ∷ true ∷ true ∷ false ∷ false ∷ []
+-- the test of what is read
+abbrev readBy : (id row : ℕ) → Bool
+readBy id row = ltb row 9 && not (eqb id currentId) && not (eqb id statustextId)
 
-pub read-row : (id : ℕ) (p : Bytes) → getD reads (rowOf id) false ≡ isRead (decode id p)
+read-row : (id : ℕ) (p : Bytes) → readBy id (rowOf id) ≡ isRead (decode id p)
 unfolding rowOf decode messageOf
-read-row id p = by-row (λ id. getD reads (rowOf id) false ≡ isRead (decode id p)) refl refl refl refl refl refl refl refl refl (λ id no. rw (no .row, no .message p)) id
+read-row id p = by-row (λ id. readBy id (rowOf id) ≡ isRead (decode id p)) refl refl refl refl refl refl refl refl refl (λ id no. rw (no .row, no .message p)) id
 
--- where the field of a column stands in a message: past every full length where there is none
-abbrev pub systems : List ℕ
-systems = 2 ∷ 54 ∷ 0 ∷ 2 ∷ 0 ∷ 0 ∷ 2 ∷ 32 ∷ 54 ∷ 54 ∷ []
-
-abbrev pub components : List ℕ
-components = 3 ∷ 54 ∷ 1 ∷ 3 ∷ 1 ∷ 1 ∷ 3 ∷ 33 ∷ 54 ∷ 54 ∷ []
+-- where the field of a column stands in a message: in a byte that is not its own where there is none
+abbrev pub targets : List ℕ
+targets = 2 ∷ 36 ∷ 0 ∷ 2 ∷ 0 ∷ 0 ∷ 2 ∷ 32 ∷ 36 ∷ 36 ∷ []
 
 abbrev pub kinds : List ℕ
-kinds = 54 ∷ 54 ∷ 2 ∷ 4 ∷ 2 ∷ 3 ∷ 4 ∷ 37 ∷ 54 ∷ 54 ∷ []
+kinds = 36 ∷ 36 ∷ 2 ∷ 4 ∷ 2 ∷ 3 ∷ 4 ∷ 37 ∷ 36 ∷ 36 ∷ []
 
--- the byte of a column in the part of a payload that is the message's own
-abbrev pub ownByte : List ℕ → ℕ → Bytes → ℕ
-ownByte column id p = getD (take (layoutOf id .full) p) (getD column (rowOf id) 0) 0
+not-read : {A : Type 0} → false ≡ true → A
+not-read e = absurd (subst T (sym e) tt)
 
-pub system-row : (id : ℕ) (p : Bytes) → ownByte systems id p ≡ targetOf (decode id p) .system
+-- of the messages that are read, each column names the byte that the decoded message has
+
+target-row : (id : ℕ) (b : Bytes) → isRead (decode id b) ≡ true → station (getD b (getD targets (rowOf id) 0) 0) (getD b (getD targets (rowOf id) 0 + 1) 0) ≡ targetOf (decode id b)
 unfolding rowOf layoutOf decode messageOf values
-system-row id p =
-    by-row (λ id. ownByte systems id p ≡ targetOf (decode id p) .system)
-    (byte-within 2 4 p (lit< tt))
-    (byte-past 54 18 p (lit≤ tt))
-    (byte-within 0 3 p (lit< tt))
-    (byte-within 2 9 p (lit< tt))
-    (byte-within 0 3 p (lit< tt))
-    (byte-within 0 8 p (lit< tt))
-    (byte-within 2 5 p (lit< tt))
-    (byte-within 32 38 p (lit< tt))
-    (byte-past 54 54 p (lit≤ tt))
-    (λ id no. rw (no .row, no .full, no .message p))
+target-row id b =
+    by-row (λ id. isRead (decode id b) ≡ true → station (getD b (getD targets (rowOf id) 0) 0) (getD b (getD targets (rowOf id) 0 + 1) 0) ≡ targetOf (decode id b))
+    (λ e. pair 2)
+    not-read
+    (λ e. pair 0)
+    (λ e. pair 2)
+    (λ e. pair 0)
+    (λ e. pair 0)
+    (λ e. pair 2)
+    (λ e. pair 32)
+    not-read
+    (λ id no e. not-read (sym (ap isRead (no .message b)) ∙ e))
+    id
+  where
+    pair : (at : ℕ) → station (getD b at 0) (getD b (at + 1) 0) ≡ station (numberAt 1 at b) (numberAt 1 (at + 1) b)
+    pair at = λ i. station (sym (number-one at b) i) (sym (number-one (at + 1) b) i)
+
+-- SET_CURRENT has no kind: the byte named is past its full length
+kind-row : (id : ℕ) (p b : Bytes) → Owned (layoutOf id .full) p b → isRead (decode id b) ≡ true → getD b (getD kinds (rowOf id) 0) 0 ≡ kindOf (decode id b)
+unfolding rowOf layoutOf decode messageOf values
+kind-row id p b =
+    by-row (λ id. Owned (layoutOf id .full) p b → isRead (decode id b) ≡ true → getD b (getD kinds (rowOf id) 0) 0 ≡ kindOf (decode id b))
+    (λ own e. own .byte 36 (lit< tt) ∙ List·getD-eq-default (take 4 p) 0 (omega (arith, length-take 4 p)))
+    (λ own e. not-read e)
+    (λ own e. sym (number-one 2 b))
+    (λ own e. sym (number-one 4 b))
+    (λ own e. sym (number-one 2 b))
+    (λ own e. sym (number-one 3 b))
+    (λ own e. sym (number-one 4 b))
+    (λ own e. sym (number-one 37 b))
+    (λ own e. not-read e)
+    (λ id no own e. not-read (sym (ap isRead (no .message b)) ∙ e))
     id
 
-pub component-row : (id : ℕ) (p : Bytes) → ownByte components id p ≡ targetOf (decode id p) .component
-unfolding rowOf layoutOf decode messageOf values
-component-row id p =
-    by-row (λ id. ownByte components id p ≡ targetOf (decode id p) .component)
-    (byte-within 3 4 p (lit< tt))
-    (byte-past 54 18 p (lit≤ tt))
-    (byte-within 1 3 p (lit< tt))
-    (byte-within 3 9 p (lit< tt))
-    (byte-within 1 3 p (lit< tt))
-    (byte-within 1 8 p (lit< tt))
-    (byte-within 3 5 p (lit< tt))
-    (byte-within 33 38 p (lit< tt))
-    (byte-past 54 54 p (lit≤ tt))
-    (λ id no. rw (no .row, no .full, no .message p))
-    id
+-- each number of a column is that of a byte that is there, and fits a byte
 
-pub kind-row : (id : ℕ) (p : Bytes) → ownByte kinds id p ≡ kindOf (decode id p)
-unfolding rowOf layoutOf decode messageOf values
-kind-row id p =
-    by-row (λ id. ownByte kinds id p ≡ kindOf (decode id p))
-    (byte-past 54 4 p (lit≤ tt))
-    (byte-past 54 18 p (lit≤ tt))
-    (byte-within 2 3 p (lit< tt))
-    (byte-within 4 9 p (lit< tt))
-    (byte-within 2 3 p (lit< tt))
-    (byte-within 3 8 p (lit< tt))
-    (byte-within 4 5 p (lit< tt))
-    (byte-within 37 38 p (lit< tt))
-    (byte-past 54 54 p (lit≤ tt))
-    (λ id no. rw (no .row, no .full, no .message p))
-    id
+abbrev below : ℕ → List ℕ → Bool
+below limit [] = true
+below limit (n ∷ ns) = ltb n limit && below limit ns
+
+pub all-below : (limit : ℕ) (ns : List ℕ) (k : ℕ) → T (below limit ns) → 0 < limit → getD ns k 0 < limit
+all-below limit [] k t some = some
+all-below limit (n ∷ ns) zero t some = ltb→lt n limit (left (ltb n limit) (below limit ns) t)
+all-below limit (n ∷ ns) (suc k) t some = all-below limit ns k (right (ltb n limit) (below limit ns) t) some
+
+pub next-below : (limit : ℕ) (ns : List ℕ) (k : ℕ) → T (below limit ns) → 0 < limit → getD ns k 0 + 1 < suc limit
+next-below limit ns k t some = omega (arith, all-below limit ns k t some)
+
+pub column-fits : (w : Width) (ns : List ℕ) (k : ℕ) → T (below byteValues ns) → T (leb byteValues (2 ^ bits w)) → Fits w (getD ns k 0)
+column-fits w ns k t wide = fits-under w (getD ns k 0) byteValues (all-below byteValues ns k t (lit< tt)) wide
 
 -- ---- a message has all its fields within its full length
 
@@ -154,21 +164,68 @@ abbrev within : ℕ → List Field → Bool
 within full [] = true
 within full (f ∷ fs) = leb (f .at + f .size) full && within full fs
 
-values-take : (full : ℕ) (fs : List Field) (p : Bytes) → T (within full fs) → values fs (take full p) ≡ values fs p
+values-same : (full : ℕ) (fs : List Field) (p q : Bytes) → ((i : ℕ) → i < full → getD q i 0 ≡ getD p i 0) → T (within full fs) → values fs q ≡ values fs p
 unfolding values
-values-take full [] p t = refl
-values-take full (f ∷ fs) p t =
-    let first : numberAt (f .size) (f .at) (take full p) ≡ numberAt (f .size) (f .at) p = number-take (f .size) (f .at) full p (leb→le (f .at + f .size) full (left (leb (f .at + f .size) full) (within full fs) t)) in
-    λ i. first i ∷ values-take full fs p (right (leb (f .at + f .size) full) (within full fs) t) i
+values-same full [] p q same t = refl
+values-same full (f ∷ fs) p q same t =
+    let first : numberAt (f .size) (f .at) q ≡ numberAt (f .size) (f .at) p = number-same (f .size) (f .at) full p q same (leb→le (f .at + f .size) full (left (leb (f .at + f .size) full) (within full fs) t)) in
+    λ i. first i ∷ values-same full fs p q same (right (leb (f .at + f .size) full) (within full fs) t) i
 
 all-within : (id : ℕ) → T (within (layoutOf id .full) (layoutOf id .fields))
 unfolding layoutOf
 all-within = by-row (λ id. T (within (layoutOf id .full) (layoutOf id .fields))) tt tt tt tt tt tt tt tt tt (λ id no. subst (λ fs. T (within (layoutOf id .full) fs)) (sym (no .fields)) tt)
 
--- "Bytes past the full length are ignored."
-pub decode-own : (id : ℕ) (p : Bytes) → decode id (take (layoutOf id .full) p) ≡ decode id p
+-- the longest message that is read is ITEM_INT
+full-read : (id : ℕ) (p : Bytes) → isRead (decode id p) ≡ true → layoutOf id .full ≤ itemBytes
+unfolding layoutOf decode messageOf
+full-read id p =
+    by-row (λ id. isRead (decode id p) ≡ true → layoutOf id .full ≤ itemBytes)
+    (λ e. lit≤ tt)
+    not-read
+    (λ e. lit≤ tt)
+    (λ e. lit≤ tt)
+    (λ e. lit≤ tt)
+    (λ e. lit≤ tt)
+    (λ e. lit≤ tt)
+    (λ e. lit≤ tt)
+    not-read
+    (λ id no e. not-read (sym (ap isRead (no .message p)) ∙ e))
+    id
+
+-- "Bytes past the full length are ignored.": a message that is read is decoded from its own bytes
+decode-own : (id : ℕ) (p b : Bytes) → Owned (layoutOf id .full) p b → isRead (decode id p) ≡ true → decode id b ≡ decode id p
 unfolding decode
-decode-own id p = ap (messageOf id) (values-take (layoutOf id .full) (layoutOf id .fields) p (all-within id))
+decode-own id p b own read =
+    let full : ℕ = layoutOf id .full in
+    let same : (i : ℕ) → i < full → getD b i 0 ≡ getD p i 0 = λ i h. own .byte i (omega (arith, full-read id p read)) ∙ getD-take full p i 0 h in
+    ap (messageOf id) (values-same full (layoutOf id .fields) p b same (all-within id))
+
+-- ---- what is received, by the row of an id and the bytes that are its own
+
+abbrev receivedBy : (id row : ℕ) → Bytes → Received
+receivedBy id row b =
+    record {
+      read = readBy id row;
+      head = record { system = getD b (getD targets row 0) 0; component = getD b (getD targets row 0 + 1) 0; kind = getD b (getD kinds row 0) 0 };
+      own = b;
+    }
+
+pub received : (id row : ℕ) (p b : Bytes) → row ≡ rowOf id → Owned (getD fulls row 0) p b → ReadAs id p (receivedBy id row b)
+received id row p b e = subst (λ (k : ℕ). Owned (getD fulls k 0) p b → ReadAs id p (receivedBy id k b)) (sym e) at-row
+  where
+    at-row : Owned (getD fulls (rowOf id) 0) p b → ReadAs id p (receivedBy id (rowOf id) b)
+    at-row part =
+        let own : Owned (layoutOf id .full) p b = subst (λ (n : ℕ). Owned n p b) (full-row id) part in
+        let same : readBy id (rowOf id) ≡ true → decode id b ≡ decode id p = λ is. decode-own id p b own (sym (read-row id p) ∙ is) in
+        let read : readBy id (rowOf id) ≡ true → isRead (decode id b) ≡ true = λ is. ap isRead (same is) ∙ sym (read-row id p) ∙ is in
+        record {
+          read = read-row id p;
+          decodes = same;
+          heads =
+              λ is.
+              (λ i. record { system = target-row id b (read is) i .system; component = target-row id b (read is) i .component; kind = kind-row id p b own (read is) i })
+              ∙ ap headOf (same is);
+        }
 
 -- ---- a search among the ids, from place k on
 

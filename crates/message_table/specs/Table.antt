@@ -1,12 +1,16 @@
--- A message's row in the table of layouts, and what the table's other columns say: read here or not, target, kind.
-use Prim.Native.Nat.{ℕ, suc}
+-- A message's row in the table of layouts, what the table's other columns say: read here or not, target, kind; and a payload as it is read.
+use Prim.Native.Nat.{ℕ, suc, _<_}
+use mathlib.Core.Path.{_≡_}
 use mathlib.Core.List.{List, [], _∷_, map}
 use mathlib.Core.Bool.{Bool, true, false, cond}
 use lib.Dec.{eqb}
-use Rattle.rules.specs.Limits.{flight}
+use lib.ListN.{getD, take}
+use Rattle.rules.specs.Limits.{flight, itemBytes}
+use Rattle.rules.specs.Payload.{Bytes}
 use Rattle.rules.specs.Layouts.{Layout, layouts}
 use Rattle.message_table.specs.declared.Head.{Head}
-use Rattle.rules.specs.Messages.{Station, station, Message, setCurrent, current, requestList, count, clearAll, ack, requestInt, itemInt, statustext, unknown}
+use Rattle.message_table.specs.declared.Received.{Received}
+use Rattle.rules.specs.Messages.{decode, Station, station, Message, setCurrent, current, requestList, count, clearAll, ack, requestInt, itemInt, statustext, unknown}
 
 abbrev pub ids : List ℕ
 ids = map (λ (l : Layout). l .id) layouts
@@ -60,3 +64,16 @@ kindOf unknown = flight
 
 abbrev pub headOf : Message → Head
 headOf m = record { system = targetOf m .system; component = targetOf m .component; kind = kindOf m }
+
+-- ---- a payload as it is read
+
+-- "missing bytes are zero", "bytes past the full length are ignored": the bytes b, as many as the longest message has that is read, are those of a payload up to
+-- a full length
+pub record Owned (full : ℕ) (p b : Bytes) : Type 0 where
+  pub byte : (i : ℕ) → i < itemBytes → getD b i 0 ≡ getD (take full p) i 0
+
+-- what is received is what the payload says
+pub record ReadAs (id : ℕ) (p : Bytes) (r : Received) : Type 0 where
+  pub read : r .read ≡ isRead (decode id p)
+  pub decodes : r .read ≡ true → decode id (r .own) ≡ decode id p
+  pub heads : r .read ≡ true → r .head ≡ headOf (decode id p)

@@ -1,12 +1,9 @@
-// The constant table of messages: ids, full lengths, and where target system, component and kind stand.
+// The constant table of messages: ids, full lengths, and where target system, component and kind stand; and a payload as it is read by it.
 ghost use mathlib.Core.Path.{_≡_};
-ghost use Prim.Native.Nat.{_<_};
-ghost use lib.ListN.{take};
-ghost use Rattle.rules.specs.Payload.{Bytes};
+ghost use Prim.Native.Nat.{_<_, min};
 ghost use Rattle.rules.specs.Layouts.{layoutOf};
-ghost use Rattle.rules.specs.Messages.{decode};
-ghost use Rattle.message_table.specs.Table.{rowOf, isRead, headOf};
-use fields::byte_at;
+ghost use Rattle.message_table.specs.Table.{rowOf, Owned, ReadAs};
+use limits::ITEM_BYTES;
 
 pub const SET_CURRENT_ID: u32 = 41;
 
@@ -27,41 +24,27 @@ pub const ITEM_INT_ID: u32 = 73;
 pub const STATUSTEXT_ID: u32 = 253;
 
 // The rows of the table, in this order.
-const IDS: [u32; 9] = [
-    SET_CURRENT_ID,
-    CURRENT_ID,
-    REQUEST_LIST_ID,
-    COUNT_ID,
-    CLEAR_ALL_ID,
-    ACK_ID,
-    REQUEST_INT_ID,
-    ITEM_INT_ID,
-    STATUSTEXT_ID,
+const IDS: [u8; 9] = [
+    SET_CURRENT_ID as u8,
+    CURRENT_ID as u8,
+    REQUEST_LIST_ID as u8,
+    COUNT_ID as u8,
+    CLEAR_ALL_ID as u8,
+    ACK_ID as u8,
+    REQUEST_INT_ID as u8,
+    ITEM_INT_ID as u8,
+    STATUSTEXT_ID as u8,
 ];
 // One number more in each column: that of every id that is not in the table.
-const FULLS: [usize; 10] = [4, 18, 3, 9, 3, 8, 5, 38, 54, 0];
+const FULLS: [u8; 10] = [4, 18, 3, 9, 3, 8, 5, 38, 54, 0];
 
-// CURRENT and STATUSTEXT are only written.
-const READ: [bool; 10] = [
-    true,
-    false,
-    true,
-    true,
-    true,
-    true,
-    true,
-    true,
-    false,
-    false,
-];
-// A message without the field has NONE, past every full length.
-const NONE: usize = 54;
+// A message without the field has NONE: of those that are read only SET_CURRENT, which has no kind, and whose bytes end before it.
+const NONE: u8 = 36;
 
-const SYSTEMS: [usize; 10] = [2, NONE, 0, 2, 0, 0, 2, 32, NONE, NONE];
+// Where the target's system stands, its component behind it, and the kind.
+const TARGETS: [u8; 10] = [2, NONE, 0, 2, 0, 0, 2, 32, NONE, NONE];
 
-const COMPONENTS: [usize; 10] = [3, NONE, 1, 3, 1, 1, 3, 33, NONE, NONE];
-
-const KINDS: [usize; 10] = [NONE, NONE, 2, 4, 2, 3, 4, 37, NONE, NONE];
+const KINDS: [u8; 10] = [NONE, NONE, 2, 4, 2, 3, 4, 37, NONE, NONE];
 
 // The row of an id, 9 where it has none.
 fn row_of(id: u32) -> usize
@@ -69,7 +52,7 @@ fn row_of(id: u32) -> usize
 {
     let mut row = 0;
     while row < 9 {
-        if IDS[row] == id {
+        if IDS[row] as u32 == id {
             return row;
         }
         row += 1;
@@ -81,26 +64,11 @@ fn row_of(id: u32) -> usize
 pub fn full_of(id: u32) -> usize
     ensures { λ r. ⌜ r ≡ layoutOf id .full ⌝ }
 {
-    FULLS[row_of(id)]
+    FULLS[row_of(id)] as usize
 }
 
-// Whether messages of this id are read here.
-pub fn is_read(id: u32) -> bool
-    ensures { λ r. ⌜ ((p : Bytes) → r ≡ isRead (decode id p)) ⌝ }
-{
-    READ[row_of(id)]
-}
-
-// The bytes of a payload that are a message's own: those past its full length are ignored.
-pub fn own_part(id: u32, p: &[u8]) -> &[u8]
-    ensures { λ r. ⌜ now r ≡ take (layoutOf id .full) (now (p .entry)) ⌝ }
-{
-    let full = full_of(id);
-    if full < p.len() {
-        return &p[..full];
-    }
-    p
-}
+// The longest message that is read here is ITEM_INT.
+pub const OWN_BYTES: usize = ITEM_BYTES;
 
 // What a message is judged by before its own rule: target system, target component and kind.
 pub struct Head {
@@ -109,14 +77,41 @@ pub struct Head {
     pub kind: u8,
 }
 
-pub fn head_of(id: u32, p: &[u8]) -> Head
-    ensures { λ r. ⌜ r ≡ headOf (decode id (now (p .entry))) ⌝ }
+// A payload as it is read, once: whether messages of its id are read here, its head, and its own bytes.
+pub struct Received {
+    pub read: bool,
+    pub head: Head,
+    pub own: [u8; OWN_BYTES],
+}
+
+fn least(a: usize, b: usize) -> usize
+    ensures { λ r. ⌜ r ≡ min a b ⌝ }
+{
+    if a < b { a } else { b }
+}
+
+// The bytes of a payload that are a message's own: those past its full length are ignored, missing ones are zero.
+fn own_bytes(full: usize, payload: &[u8]) -> [u8; OWN_BYTES]
+    ensures { λ r. ⌜ Owned full (now (payload .entry)) r ⌝ }
+{
+    let n = least(least(full, payload.len()), OWN_BYTES);
+    let mut own = [0u8; OWN_BYTES];
+    copying::copy(payload, n, &mut own, 0);
+    own
+}
+
+pub fn receive(id: u32, payload: &[u8]) -> Received
+    ensures { λ r. ⌜ ReadAs id (now (payload .entry)) r ⌝ }
 {
     let row = row_of(id);
-    let own = own_part(id, p);
-    Head {
-        system: byte_at(own, SYSTEMS[row]),
-        component: byte_at(own, COMPONENTS[row]),
-        kind: byte_at(own, KINDS[row]),
-    }
+    let own = own_bytes(FULLS[row] as usize, payload);
+    let target = TARGETS[row] as usize;
+    let head = Head {
+        system: own[target],
+        component: own[target + 1],
+        kind: own[KINDS[row] as usize],
+    };
+    // CURRENT and STATUSTEXT are only written.
+    let read = (row < 9) & (id != CURRENT_ID) & (id != STATUSTEXT_ID);
+    Received { read, head, own }
 }

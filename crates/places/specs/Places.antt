@@ -79,6 +79,10 @@ unfolding placeOf
 place-within true kind n known below = omega (arith, first-within kind known)
 place-within false kind n known below = omega (arith, first-within kind known)
 
+pub offset-next : (half : Bool) (kind n : ℕ) → offsetOf half kind (n + 1) ≡ offsetOf half kind n + itemBytes
+unfolding offsetOf placeOf
+offset-next half kind n = omega arith
+
 pub offset-within : (half : Bool) (kind n : ℕ) → kind ≤ rally → n < sizeOf kind → offsetOf half kind n + itemBytes ≤ storeBytes
 unfolding offsetOf
 offset-within half kind n known below = omega (arith, place-within half kind n known below)

@@ -8,13 +8,11 @@ ghost use Rattle.rules.specs.Items.{jumpsAmong};
 ghost use Rattle.places.specs.Part.{part, put};
 ghost use Rattle.places.specs.Places.{offsetOf, itemsIn};
 ghost use Rattle.places.specs.Stored.{withCommand};
+use limits::FENCE;
+use limits::FLIGHT;
 use limits::ITEM_BYTES;
 use limits::JUMP;
 use limits::RALLY;
-
-const SIZES: [u16; 3] = [256, 64, 32];
-
-const FIRST_PLACES: [u16; 3] = [0, 256, 320];
 
 const HALF_PLACES: usize = 352;
 
@@ -22,20 +20,23 @@ const HALF_PLACES: usize = 352;
 pub fn size_of(kind: u8) -> u16
     ensures { λ r. ⌜ r ≡ sizeOf kind ⌝ }
 {
-    if RALLY < kind {
-        return 0;
+    match kind {
+        FLIGHT => 256,
+        FENCE => 64,
+        RALLY => 32,
+        _ => 0,
     }
-    SIZES[kind as usize]
 }
 
 // The item place at which a kind begins, in either half; 0 above the last kind.
 fn first_place_of(kind: u8) -> u16
     ensures { λ r. ⌜ r ≡ firstPlaceOf kind ⌝ }
 {
-    if RALLY < kind {
-        return 0;
+    match kind {
+        FENCE => 256,
+        RALLY => 320,
+        _ => 0,
     }
-    FIRST_PLACES[kind as usize]
 }
 
 // The store's byte at which the item with a number begins.
@@ -65,7 +66,7 @@ pub fn put_item(store: &mut [u8], at: usize, bytes: [u8; ITEM_BYTES])
 
 // The command of the item that begins at `at`.
 pub fn command_at(store: &[u8], at: usize) -> u16
-    requires { ⌜ at + itemBytes ≤ storeBytes ⌝ }
+    requires { ⌜ at + itemBytes ≤ length (now store) ⌝ }
     ensures { λ r. ⌜ r ≡ itemIn (part (now (store .entry)) at itemBytes) .command ⌝ }
 {
     fields::u16_at(store, at + COMMAND)
@@ -73,7 +74,7 @@ pub fn command_at(store: &[u8], at: usize) -> u16
 
 // The bit pattern of its param 1, the first field.
 pub fn param1_at(store: &[u8], at: usize) -> u32
-    requires { ⌜ at + itemBytes ≤ storeBytes ⌝ }
+    requires { ⌜ at + itemBytes ≤ length (now store) ⌝ }
     ensures { λ r. ⌜ r ≡ itemIn (part (now (store .entry)) at itemBytes) .param1 ⌝ }
 {
     fields::u32_at(store, at)
@@ -85,11 +86,13 @@ pub fn with_command(store: &[u8], kind: u8, half: bool, n: u16, command: u16) ->
     ensures { λ r. ⌜ r ≡ withCommand command (itemsIn (now (store .entry)) half kind n) ⌝ }
 {
     let mut count: u16 = 0;
+    let mut at = place_at(kind, half, 0);
     let mut i: u16 = 0;
     while i < n {
-        if command_at(store, place_at(kind, half, i)) == command {
+        if command_at(store, at) == command {
             count += 1;
         }
+        at += ITEM_BYTES;
         i += 1;
     }
     count

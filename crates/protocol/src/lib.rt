@@ -39,6 +39,7 @@ use upload::uploads::station_of;
 use wire::ACK_ID;
 use wire::CLEAR_ALL_ID;
 use wire::COUNT_ID;
+use wire::OWN_BYTES;
 use wire::REQUEST_INT_ID;
 use wire::REQUEST_LIST_ID;
 use wire::SET_CURRENT_ID;
@@ -81,7 +82,7 @@ fn turn(
     system: u8,
     component: u8,
     id: u32,
-    own: &[u8],
+    own: &[u8; OWN_BYTES],
     clock: u32,
 ) -> Handled
     requires { ⌜ (kind ≤ rally) × PlanRanges kind plan × (storeBytes ≤ length (now store)) × (replyBytesMin ≤ length (now reply)) ⌝ }
@@ -121,7 +122,7 @@ pub fn answer(
     system: u8,
     component: u8,
     id: u32,
-    own: &[u8],
+    own: &[u8; OWN_BYTES],
     clock: u32,
 ) -> Handled
     requires { ⌜ (plansRanged flight fence rally ≡ true) × (storeBytes ≤ length (now store)) × (replyBytesMin ≤ length (now reply)) × (isRead (decode id (now own)) ≡ true) ⌝ }

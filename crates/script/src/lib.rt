@@ -1,8 +1,9 @@
 // Call scripts: the record that stands next, read from the bytes that are left. A record is a header of 24 bytes and a payload; its numbers
 // are little-endian.
 ghost use mathlib.Core.Path.{_≡_};
-ghost use Rattle.script.specs.Records.{recordIn, pokeFits, writeFits, fits as Records·fits, nextIn};
-use fields::byte_at;
+ghost use Prim.Native.Nat.{_≤_};
+ghost use lib.ListN.{length};
+ghost use Rattle.script.specs.Records.{headerBytes, recordIn, pokeFits, writeFits, fits as Records·fits, nextIn};
 use fields::u16_at;
 use fields::u32_at;
 use limits::JUMP_COUNTS;
@@ -62,15 +63,16 @@ pub enum Next {
 }
 
 fn record_in(bytes: &[u8]) -> Record
+    requires { ⌜ headerBytes ≤ length (now bytes) ⌝ }
     ensures { λ r. ⌜ r ≡ recordIn (now (bytes .entry)) ⌝ }
 {
     Record {
-        kind: byte_at(bytes, 0),
-        b0: byte_at(bytes, 1),
-        b1: byte_at(bytes, 2),
-        b2: byte_at(bytes, 3),
-        b3: byte_at(bytes, 4),
-        b4: byte_at(bytes, 5),
+        kind: bytes[0],
+        b0: bytes[1],
+        b1: bytes[2],
+        b2: bytes[3],
+        b3: bytes[4],
+        b4: bytes[5],
         len: u16_at(bytes, 6) as usize,
         a: u32_at(bytes, 8),
         clock: u32_at(bytes, 12),

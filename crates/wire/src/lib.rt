@@ -1,22 +1,21 @@
-// MAVLink payloads: a struct for each message read or written here, and reading with zero filling. Writing is left to the crate reply, and what a
-// message does to others.
+// MAVLink payloads: a struct for each message read or written here, and reading each from its own bytes, which the table of messages gives. Writing is left to the
+// crate reply, and what a message does to others.
 mod read;
 mod structs;
 
-pub use item::item_at;
 pub use message_table::ACK_ID;
 pub use message_table::CLEAR_ALL_ID;
 pub use message_table::COUNT_ID;
 pub use message_table::CURRENT_ID;
-pub use message_table::Head;
 pub use message_table::ITEM_INT_ID;
+pub use message_table::OWN_BYTES;
 pub use message_table::REQUEST_INT_ID;
 pub use message_table::REQUEST_LIST_ID;
+pub use message_table::Received;
 pub use message_table::SET_CURRENT_ID;
 pub use message_table::STATUSTEXT_ID;
 pub use message_table::full_of;
-pub use message_table::head_of;
-pub use message_table::is_read;
+pub use message_table::receive;
 pub use read::read_ack;
 pub use read::read_clear_all;
 pub use read::read_count;

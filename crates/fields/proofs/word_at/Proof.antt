@@ -6,17 +6,17 @@ use borrow.Author.Needs.{needs}
 use Rattle.fields.proofs.word_at.Statement.{statement}
 use Rattle.fields.proofs.word_at.Tie as tie
 
-half-at-requires : tie.Need-half-at-requires
-half-at-requires c κs = search needs
+u32-at-requires : tie.Need-u32-at-requires
+u32-at-requires c κs = search needs
 
 wide64-requires : tie.Need-wide64-requires
 wide64-requires c κs = search needs
 
-add-half-at : tie.Need-add-half-at
-add-half-at c = search needs
+add-u32-at : tie.Need-add-u32-at
+add-u32-at c = search needs
 
-half-at-requires-2 : tie.Need-half-at-requires-2
-half-at-requires-2 c κs = search needs
+u32-at-requires-2 : tie.Need-u32-at-requires-2
+u32-at-requires-2 c κs = search needs
 
 wide64-requires-2 : tie.Need-wide64-requires-2
 wide64-requires-2 c κs = search needs
@@ -28,16 +28,16 @@ add-result : tie.Need-add-result
 add-result c = search needs
 
 returns : tie.Need-returns
-returns c = let a = c .before .before .before .before .before .args in omega (arith, number-eight (a .at) (now (a .bytes)))
+returns c = let a = c .before .before .before .before .before .args in omega (arith, number-eight (a .at) (now (a .p)))
 
 pub word-at-spec : {M : Type 1} → statement M
 word-at-spec =
     tie.close
     (tie.spec
-    half-at-requires
+    u32-at-requires
     wide64-requires
-    add-half-at
-    half-at-requires-2
+    add-u32-at
+    u32-at-requires-2
     wide64-requires-2
     mul-result
     add-result

@@ -7,7 +7,7 @@ use lib.Dec.{lit≤}
 use lib.ListN.{drop}
 use borrow.Author.Needs.{needs}
 use Rattle.message_table.specs.Table.{ids, rowIn, rowOf}
-use Rattle.message_table.proofs.Rows.{found, passed, past}
+use Rattle.message_table.proofs.Rows.{column-fits, found, passed, past}
 use Rattle.message_table.proofs.row_of.Statement.{statement}
 use Rattle.message_table.proofs.row_of.Tie as tie
 
@@ -21,11 +21,11 @@ loop-holds : tie.Need-loop-holds Inv-loop μ-loop
 unfolding rowOf
 loop-holds c = (lit≤ tt, sym (zero-add (rowIn ids (c .args .id))))
 
-mul-if1 : tie.Need-mul-if1 Inv-loop μ-loop
-mul-if1 c = search needs
-
 array-read-if1 : tie.Need-array-read-if1 Inv-loop μ-loop
 array-read-if1 c = search needs
+
+cast-if1 : tie.Need-cast-if1 Inv-loop μ-loop
+cast-if1 c = column-fits _ ids (c .before .loop .row) tt tt
 
 returns : tie.Need-returns Inv-loop μ-loop
 returns c =
@@ -57,8 +57,8 @@ row-of-spec =
     Inv-loop
     μ-loop
     loop-holds
-    mul-if1
     array-read-if1
+    cast-if1
     returns
     add-row
     loop-less

@@ -1,4 +1,4 @@
--- The loop's invariant: the count is that of the items passed. One more item adds one exactly if it has the command.
+-- The loop's invariant: the count is that of the items passed, and `at` the place of the next. One more item adds one exactly if it has the command.
 use mathlib.Core.Path.{_≡_, refl, _∙_, ap}
 use mathlib.Core.Logic.{⊎-elim}
 use mathlib.Core.Bool.{Bool, cond}
@@ -12,7 +12,7 @@ use Rattle.rules.specs.Limits.{itemBytes}
 use Rattle.rules.specs.Payload.{Bytes}
 use Rattle.rules.specs.Messages.{itemIn}
 use Rattle.places.specs.Part.{part}
-use Rattle.places.specs.Places.{itemAt, itemsIn, offsetOf, offset-within}
+use Rattle.places.specs.Places.{itemAt, itemsIn, offsetOf, offset-next, offset-within}
 use Rattle.places.specs.Stored.{withCommand, with-more}
 use Rattle.places.proofs.with_command.Statement.{statement}
 use Rattle.places.proofs.with_command.Tie as tie
@@ -28,25 +28,31 @@ counted store half kind command i count at found before place read =
     rw (add-one i, with-more command (itemsIn store half kind i) (itemAt store half kind i), read, before, place)
 
 abbrev Inv-loop : tie.InvT-loop
-Inv-loop store kind half n command count₀ i₀ count i = (i ≤ n) × (count ≤ i) × (count ≡ withCommand command (itemsIn store half kind i))
+Inv-loop store kind half n command count₀ at₀ i₀ count at i =
+    (i ≤ n) × (count ≤ i) × (at ≡ offsetOf half kind i) × (count ≡ withCommand command (itemsIn store half kind i))
 
 abbrev μ-loop : tie.MeasureT-loop
-μ-loop store kind half n command count₀ i₀ count i = n - i
-
-loop-holds : tie.Need-loop-holds Inv-loop μ-loop
-unfolding itemsIn withCommand
-loop-holds c = (omega arith, omega arith, refl)
+μ-loop store kind half n command count₀ at₀ i₀ count at i = n - i
 
 place-at-requires : tie.Need-place-at-requires Inv-loop μ-loop
 place-at-requires c κs = search needs
 
+loop-holds : tie.Need-loop-holds Inv-loop μ-loop
+unfolding itemsIn withCommand
+loop-holds c = (omega arith, omega arith, c .place-at .ensures, refl)
+
 command-at-requires : tie.Need-command-at-requires Inv-loop μ-loop
 command-at-requires c κs =
     let a = c .before .before .before .before .args in
-    omega (arith, offset-within (a .half) (a .kind) (c .before .before .loop .i) (omega arith) (omega arith))
+    omega (arith, offset-within (a .half) (a .kind) (c .before .loop .i) (omega arith) (omega arith))
 
 add-count : tie.Need-add-count Inv-loop μ-loop
 add-count c = omega arith
+
+add-at : tie.Need-add-at Inv-loop μ-loop
+add-at c =
+    let a = c .before .before .before .before .before .before .args in
+    record { fits = omega (arith, offset-within (a .half) (a .kind) (c .before .before .before .loop .i) (omega arith) (omega arith)) }
 
 add-i : tie.Need-add-i Inv-loop μ-loop
 add-i c = omega arith
@@ -57,13 +63,14 @@ loop-less c = omega arith
 loop-again : tie.Need-loop-again Inv-loop μ-loop
 loop-again c =
     let a = c .before .before .before .before .before .before .args in
-    let l = c .before .before .before .before .loop in
+    let l = c .before .before .before .loop in
     let found = c .before .command-at .result in
     let turn =
-    counted (a .store .now) (a .half) (a .kind) (a .command) (l .i) (l .count) (c .before .before .place-at .result) found
-    (l .inv .2) (c .before .before .place-at .ensures) (c .before .command-at .ensures) in (
+    counted (a .store .now) (a .half) (a .kind) (a .command) (l .i) (l .count) (l .at) found
+    (l .inv .3) (l .inv .2) (c .before .command-at .ensures) in (
       omega arith,
       ⊎-elim (λ w. omega arith) (λ w. omega arith) (c .if1 .came),
+      omega (arith, offset-next (a .half) (a .kind) (l .i)),
       ⊎-elim
           (λ w. w .1 ∙ add-one (l .count) ∙ (rw (eq-eqb found (a .command) (w .0 .taken)) at turn))
           (λ w. w .1 ∙ (rw (ne-eqb found (a .command) (w .0 .left)) at turn))
@@ -72,9 +79,9 @@ loop-again c =
 
 returns : tie.Need-returns Inv-loop μ-loop
 returns c =
-    let a = c .before .before .before .args in
+    let a = c .before .before .before .before .args in
     let l = c .before .loop in
-    l .inv .2 ∙ ap (λ (k : ℕ). withCommand (a .command) (itemsIn (a .store .now) (a .half) (a .kind) k)) (omega arith)
+    l .inv .3 ∙ ap (λ (k : ℕ). withCommand (a .command) (itemsIn (a .store .now) (a .half) (a .kind) k)) (omega arith)
 
 pub with-command-spec : {M : Type 1} → statement M
 with-command-spec =
@@ -82,10 +89,11 @@ with-command-spec =
     (tie.spec
     Inv-loop
     μ-loop
-    loop-holds
     place-at-requires
+    loop-holds
     command-at-requires
     add-count
+    add-at
     add-i
     loop-less
     loop-again

@@ -1,32 +1,34 @@
 -- `script::record_in` meets its contract: each field is the number at its offset.
+use lib.ListN.{getD}
+use denote.Ref.{now}
 use Rattle.script.specs.Records.{recordIn}
 use borrow.Author.Needs.{needs}
 use Rattle.script.proofs.record_in.Statement.{statement}
 use Rattle.script.proofs.record_in.Tie as tie
 
-byte-at-requires : tie.Need-byte-at-requires
-byte-at-requires c κs = search needs
+shared-slice-read-t3 : tie.Need-shared-slice-read-t3
+shared-slice-read-t3 c = search needs
 
-byte-at-requires-2 : tie.Need-byte-at-requires-2
-byte-at-requires-2 c κs = search needs
+shared-slice-read-t5 : tie.Need-shared-slice-read-t5
+shared-slice-read-t5 c = search needs
 
-byte-at-requires-3 : tie.Need-byte-at-requires-3
-byte-at-requires-3 c κs = search needs
+shared-slice-read-t7 : tie.Need-shared-slice-read-t7
+shared-slice-read-t7 c = search needs
 
-byte-at-requires-4 : tie.Need-byte-at-requires-4
-byte-at-requires-4 c κs = search needs
+shared-slice-read-t9 : tie.Need-shared-slice-read-t9
+shared-slice-read-t9 c = search needs
 
-byte-at-requires-5 : tie.Need-byte-at-requires-5
-byte-at-requires-5 c κs = search needs
+shared-slice-read-t11 : tie.Need-shared-slice-read-t11
+shared-slice-read-t11 c = search needs
 
-byte-at-requires-6 : tie.Need-byte-at-requires-6
-byte-at-requires-6 c κs = search needs
+shared-slice-read-t13 : tie.Need-shared-slice-read-t13
+shared-slice-read-t13 c = search needs
 
 u16-at-requires : tie.Need-u16-at-requires
 u16-at-requires c κs = search needs
 
-cast-t9 : tie.Need-cast-t9
-cast-t9 c = search needs
+cast-t15 : tie.Need-cast-t15
+cast-t15 c = search needs
 
 u32-at-requires : tie.Need-u32-at-requires
 u32-at-requires c κs = search needs
@@ -37,14 +39,14 @@ u32-at-requires-2 c κs = search needs
 u32-at-requires-3 : tie.Need-u32-at-requires-3
 u32-at-requires-3 c κs = search needs
 
-cast-t13 : tie.Need-cast-t13
-cast-t13 c = search needs
+cast-t19 : tie.Need-cast-t19
+cast-t19 c = search needs
 
 u32-at-requires-4 : tie.Need-u32-at-requires-4
 u32-at-requires-4 c κs = search needs
 
-cast-t15 : tie.Need-cast-t15
-cast-t15 c = search needs
+cast-t21 : tie.Need-cast-t21
+cast-t21 c = search needs
 
 returns : tie.Need-returns
 unfolding recordIn
@@ -53,18 +55,14 @@ returns c =
     let clock = store .before in
     let a = clock .before in
     let len = a .before in
-    let b4 = len .before in
-    let b3 = b4 .before in
-    let b2 = b3 .before in
-    let b1 = b2 .before in
-    let b0 = b1 .before in
+    let p = now (len .before .before .before .before .before .before .before .before .args .bytes) in
     λ i. record {
-      kind = (b0 .before .byte-at .ensures) i;
-      b0 = (b0 .byte-at2 .ensures) i;
-      b1 = (b1 .byte-at3 .ensures) i;
-      b2 = (b2 .byte-at4 .ensures) i;
-      b3 = (b3 .byte-at5 .ensures) i;
-      b4 = (b4 .byte-at6 .ensures) i;
+      kind = getD p 0 0;
+      b0 = getD p 1 0;
+      b1 = getD p 2 0;
+      b2 = getD p 3 0;
+      b3 = getD p 4 0;
+      b4 = getD p 5 0;
       len = (len .u16-at .ensures) i;
       a = (a .u32-at .ensures) i;
       clock = (clock .u32-at2 .ensures) i;
@@ -76,18 +74,18 @@ pub record-in-spec : {M : Type 1} → statement M
 record-in-spec =
     tie.close
     (tie.spec
-    byte-at-requires
-    byte-at-requires-2
-    byte-at-requires-3
-    byte-at-requires-4
-    byte-at-requires-5
-    byte-at-requires-6
+    shared-slice-read-t3
+    shared-slice-read-t5
+    shared-slice-read-t7
+    shared-slice-read-t9
+    shared-slice-read-t11
+    shared-slice-read-t13
     u16-at-requires
-    cast-t9
+    cast-t15
     u32-at-requires
     u32-at-requires-2
     u32-at-requires-3
-    cast-t13
+    cast-t19
     u32-at-requires-4
-    cast-t15
+    cast-t21
     returns)

@@ -1,10 +1,10 @@
 -- `item::payload::item_at` meets its contract: the item is made of the numbers at its fields' offsets.
-use mathlib.Core.Path.{_∙_}
+use mathlib.Core.Path.{sym, _∙_}
 use denote.Ref.{now}
 use Rattle.rules.specs.Layouts.{layoutOf, values}
 use Rattle.rules.specs.Messages.{itemIn}
 use Rattle.item.specs.Patterns.{itemFor}
-use Rattle.fields.specs.Numbers.{as-number}
+use Rattle.fields.specs.Numbers.{number-one}
 use borrow.Author.Needs.{needs}
 use Rattle.item.proofs.payload.item_at.Statement.{statement}
 use Rattle.item.proofs.payload.item_at.Tie as tie
@@ -36,14 +36,14 @@ u16-at-requires c κs = search needs
 u16-at-requires-2 : tie.Need-u16-at-requires-2
 u16-at-requires-2 c κs = search needs
 
-byte-at-requires : tie.Need-byte-at-requires
-byte-at-requires c κs = search needs
+shared-slice-read-made : tie.Need-shared-slice-read-made
+shared-slice-read-made c = search needs
 
-byte-at-requires-2 : tie.Need-byte-at-requires-2
-byte-at-requires-2 c κs = search needs
+shared-slice-read-made-2 : tie.Need-shared-slice-read-made-2
+shared-slice-read-made-2 c = search needs
 
-byte-at-requires-3 : tie.Need-byte-at-requires-3
-byte-at-requires-3 c κs = search needs
+shared-slice-read-made-3 : tie.Need-shared-slice-read-made-3
+shared-slice-read-made-3 c = search needs
 
 made-requires : tie.Need-made-requires
 made-requires c κs = search needs
@@ -51,10 +51,7 @@ made-requires c κs = search needs
 returns : tie.Need-returns
 unfolding itemIn layoutOf values
 returns c =
-    let kind = c .before in
-    let autocontinue = kind .before in
-    let frame = autocontinue .before in
-    let command = frame .before in
+    let command = c .before .before .before .before in
     let seq = command .before in
     let z = seq .before in
     let y = z .before in
@@ -75,9 +72,9 @@ returns c =
       z = (z .u32-at7 .ensures) i;
       seq = (seq .u16-at .ensures) i;
       command = (command .u16-at2 .ensures) i;
-      frame = as-number 34 p (frame .byte-at .ensures) i;
-      autocontinue = as-number 36 p (autocontinue .byte-at2 .ensures) i;
-      kind = as-number 37 p (kind .byte-at3 .ensures) i;
+      frame = sym (number-one 34 p) i;
+      autocontinue = sym (number-one 36 p) i;
+      kind = sym (number-one 37 p) i;
     }))
 
 pub item-at-spec : {M : Type 1} → statement M
@@ -93,8 +90,8 @@ item-at-spec =
     u32-at-requires-7
     u16-at-requires
     u16-at-requires-2
-    byte-at-requires
-    byte-at-requires-2
-    byte-at-requires-3
+    shared-slice-read-made
+    shared-slice-read-made-2
+    shared-slice-read-made-3
     made-requires
     returns)

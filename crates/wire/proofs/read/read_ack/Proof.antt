@@ -1,49 +1,45 @@
--- `wire::read::read_ack` meets its contract: each field is the number at its offset in the payload's own part, which decodes as the payload.
-use mathlib.Core.Path.{ap, _∙_}
-use denote.Ref.{now}
+-- `wire::read::read_ack` meets its contract: the message's own bytes decode as its struct says.
+use Prim.Native.Nat.{ℕ}
+use mathlib.Core.Path.{_≡_, sym}
+use lib.ListN.{getD}
+use Rattle.rules.specs.Payload.{Bytes, numberAt}
 use Rattle.rules.specs.Layouts.{layoutOf, values, ackId}
 use Rattle.rules.specs.Messages.{station, ack, messageOf, decode}
-use Rattle.fields.specs.Numbers.{as-number}
-use Rattle.message_table.proofs.Rows.{decode-own}
+use Rattle.fields.specs.Numbers.{number-one}
 use borrow.Author.Needs.{needs}
 use Rattle.wire.proofs.read.read_ack.Statement.{statement}
 use Rattle.wire.proofs.read.read_ack.Tie as tie
 
-own-part-requires : tie.Need-own-part-requires
-own-part-requires c κs = search needs
+-- each field is the number at its offset
+from-own : (own : Bytes) (number : ℕ) → number ≡ numberAt 4 4 own → ack (station (getD own 0 0) (getD own 1 0)) (getD own 2 0) (getD own 3 0) number ≡ decode ackId own
+unfolding decode messageOf layoutOf values
+from-own own number is-number = λ i. ack (station (sym (number-one 0 own) i) (sym (number-one 1 own) i)) (sym (number-one 2 own) i) (sym (number-one 3 own) i) (is-number i)
 
-byte-at-requires : tie.Need-byte-at-requires
-byte-at-requires c κs = search needs
+returns : tie.Need-returns
+returns c = search (from-own, needs)
 
-byte-at-requires-2 : tie.Need-byte-at-requires-2
-byte-at-requires-2 c κs = search needs
+element-copy-out-t4 : tie.Need-element-copy-out-t4
+element-copy-out-t4 c = search needs
 
-byte-at-requires-3 : tie.Need-byte-at-requires-3
-byte-at-requires-3 c κs = search needs
+element-copy-out-t7 : tie.Need-element-copy-out-t7
+element-copy-out-t7 c = search needs
 
-byte-at-requires-4 : tie.Need-byte-at-requires-4
-byte-at-requires-4 c κs = search needs
+element-copy-out-t10 : tie.Need-element-copy-out-t10
+element-copy-out-t10 c = search needs
+
+element-copy-out-t13 : tie.Need-element-copy-out-t13
+element-copy-out-t13 c = search needs
 
 u32-at-requires : tie.Need-u32-at-requires
 u32-at-requires c κs = search needs
-
-returns : tie.Need-returns
-unfolding decode messageOf layoutOf values
-returns c =
-    let p = now (c .before .before .before .before .before .before .before .args .p) in
-    let own = now (c .before .before .before .before .before .own-part .result) in
-    (λ i. ack (station (as-number 0 own (c .before .before .before .before .byte-at .ensures) i) (as-number 1 own (c .before .before .before .byte-at2 .ensures) i)) (as-number 2 own (c .before .before .byte-at3 .ensures) i) (as-number 3 own (c .before .byte-at4 .ensures) i) (c .u32-at .ensures i))
-    ∙ ap (decode ackId) (c .before .before .before .before .before .own-part .ensures)
-    ∙ decode-own ackId p
 
 pub read-ack-spec : {M : Type 1} → statement M
 read-ack-spec =
     tie.close
     (tie.spec
-    own-part-requires
-    byte-at-requires
-    byte-at-requires-2
-    byte-at-requires-3
-    byte-at-requires-4
+    element-copy-out-t4
+    element-copy-out-t7
+    element-copy-out-t10
+    element-copy-out-t13
     u32-at-requires
     returns)

@@ -1,45 +1,41 @@
--- `wire::read::read_request_int` meets its contract: each field is the number at its offset in the payload's own part, which decodes as the payload.
-use mathlib.Core.Path.{ap, _∙_}
-use denote.Ref.{now}
+-- `wire::read::read_request_int` meets its contract: the message's own bytes decode as its struct says.
+use Prim.Native.Nat.{ℕ}
+use mathlib.Core.Path.{_≡_, sym}
+use lib.ListN.{getD}
+use Rattle.rules.specs.Payload.{Bytes, numberAt}
 use Rattle.rules.specs.Layouts.{layoutOf, values, requestIntId}
 use Rattle.rules.specs.Messages.{station, requestInt, messageOf, decode}
-use Rattle.fields.specs.Numbers.{as-number}
-use Rattle.message_table.proofs.Rows.{decode-own}
+use Rattle.fields.specs.Numbers.{number-one}
 use borrow.Author.Needs.{needs}
 use Rattle.wire.proofs.read.read_request_int.Statement.{statement}
 use Rattle.wire.proofs.read.read_request_int.Tie as tie
 
-own-part-requires : tie.Need-own-part-requires
-own-part-requires c κs = search needs
+-- each field is the number at its offset
+from-own : (own : Bytes) (seq : ℕ) → seq ≡ numberAt 2 0 own → requestInt (station (getD own 2 0) (getD own 3 0)) seq (getD own 4 0) ≡ decode requestIntId own
+unfolding decode messageOf layoutOf values
+from-own own seq is-seq = λ i. requestInt (station (sym (number-one 2 own) i) (sym (number-one 3 own) i)) (is-seq i) (sym (number-one 4 own) i)
+
+returns : tie.Need-returns
+returns c = search (from-own, needs)
 
 u16-at-requires : tie.Need-u16-at-requires
 u16-at-requires c κs = search needs
 
-byte-at-requires : tie.Need-byte-at-requires
-byte-at-requires c κs = search needs
+element-copy-out-t7 : tie.Need-element-copy-out-t7
+element-copy-out-t7 c = search needs
 
-byte-at-requires-2 : tie.Need-byte-at-requires-2
-byte-at-requires-2 c κs = search needs
+element-copy-out-t10 : tie.Need-element-copy-out-t10
+element-copy-out-t10 c = search needs
 
-byte-at-requires-3 : tie.Need-byte-at-requires-3
-byte-at-requires-3 c κs = search needs
-
-returns : tie.Need-returns
-unfolding decode messageOf layoutOf values
-returns c =
-    let p = now (c .before .before .before .before .before .before .args .p) in
-    let own = now (c .before .before .before .before .own-part .result) in
-    (λ i. requestInt (station (as-number 2 own (c .before .before .byte-at .ensures) i) (as-number 3 own (c .before .byte-at2 .ensures) i)) (c .before .before .before .u16-at .ensures i) (as-number 4 own (c .byte-at3 .ensures) i))
-    ∙ ap (decode requestIntId) (c .before .before .before .before .own-part .ensures)
-    ∙ decode-own requestIntId p
+element-copy-out-t13 : tie.Need-element-copy-out-t13
+element-copy-out-t13 c = search needs
 
 pub read-request-int-spec : {M : Type 1} → statement M
 read-request-int-spec =
     tie.close
     (tie.spec
-    own-part-requires
     u16-at-requires
-    byte-at-requires
-    byte-at-requires-2
-    byte-at-requires-3
+    element-copy-out-t7
+    element-copy-out-t10
+    element-copy-out-t13
     returns)

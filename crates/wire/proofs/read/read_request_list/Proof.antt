@@ -1,36 +1,31 @@
--- `wire::read::read_request_list` meets its contract: each field is the number at its offset in the payload's own part, which decodes as the payload.
-use mathlib.Core.Path.{ap, _∙_}
-use denote.Ref.{now}
+-- `wire::read::read_request_list` meets its contract: the message's own bytes decode as its struct says.
+use mathlib.Core.Path.{_≡_, sym}
+use lib.ListN.{getD}
+use Rattle.rules.specs.Payload.{Bytes}
 use Rattle.rules.specs.Layouts.{layoutOf, values, requestListId}
 use Rattle.rules.specs.Messages.{station, requestList, messageOf, decode}
-use Rattle.fields.specs.Numbers.{as-number}
-use Rattle.message_table.proofs.Rows.{decode-own}
+use Rattle.fields.specs.Numbers.{number-one}
 use borrow.Author.Needs.{needs}
 use Rattle.wire.proofs.read.read_request_list.Statement.{statement}
 use Rattle.wire.proofs.read.read_request_list.Tie as tie
 
-own-part-requires : tie.Need-own-part-requires
-own-part-requires c κs = search needs
-
-byte-at-requires : tie.Need-byte-at-requires
-byte-at-requires c κs = search needs
-
-byte-at-requires-2 : tie.Need-byte-at-requires-2
-byte-at-requires-2 c κs = search needs
-
-byte-at-requires-3 : tie.Need-byte-at-requires-3
-byte-at-requires-3 c κs = search needs
+-- each field is the number at its offset
+from-own : (own : Bytes) → requestList (station (getD own 0 0) (getD own 1 0)) (getD own 2 0) ≡ decode requestListId own
+unfolding decode messageOf layoutOf values
+from-own own = λ i. requestList (station (sym (number-one 0 own) i) (sym (number-one 1 own) i)) (sym (number-one 2 own) i)
 
 returns : tie.Need-returns
-unfolding decode messageOf layoutOf values
-returns c =
-    let p = now (c .before .before .before .before .before .args .p) in
-    let own = now (c .before .before .before .own-part .result) in
-    (λ i. requestList (station (as-number 0 own (c .before .before .byte-at .ensures) i) (as-number 1 own (c .before .byte-at2 .ensures) i)) (as-number 2 own (c .byte-at3 .ensures) i))
-    ∙ ap (decode requestListId) (c .before .before .before .own-part .ensures)
-    ∙ decode-own requestListId p
+returns c = search (from-own, needs)
+
+element-copy-out-t4 : tie.Need-element-copy-out-t4
+element-copy-out-t4 c = search needs
+
+element-copy-out-t7 : tie.Need-element-copy-out-t7
+element-copy-out-t7 c = search needs
+
+element-copy-out-t10 : tie.Need-element-copy-out-t10
+element-copy-out-t10 c = search needs
 
 pub read-request-list-spec : {M : Type 1} → statement M
 read-request-list-spec =
-    tie.close
-    (tie.spec own-part-requires byte-at-requires byte-at-requires-2 byte-at-requires-3 returns)
+    tie.close (tie.spec element-copy-out-t4 element-copy-out-t7 element-copy-out-t10 returns)

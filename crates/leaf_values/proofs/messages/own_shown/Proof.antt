@@ -1,8 +1,8 @@
--- `leaf_values::messages::shown` meets its contract: a field fits a wider width, as it fits its own.
+-- `leaf_values::messages::own_shown` meets its contract: a field fits a wider width, as it fits its own.
 use mir.Facts.{fits-8-64, fits-16-64, fits-32-64}
 use borrow.Author.Needs.{needs}
-use Rattle.leaf_values.proofs.messages.shown.Statement.{statement}
-use Rattle.leaf_values.proofs.messages.shown.Tie as tie
+use Rattle.leaf_values.proofs.messages.own_shown.Statement.{statement}
+use Rattle.leaf_values.proofs.messages.own_shown.Tie as tie
 
 current-requires : tie.Need-current-requires
 current-requires c κs = tt
@@ -142,8 +142,8 @@ returns-6 c = search needs
 returns-7 : tie.Need-returns-7
 returns-7 c = search needs
 
-pub shown-spec : {M : Type 1} → statement M
-shown-spec =
+pub own-shown-spec : {M : Type 1} → statement M
+own-shown-spec =
     tie.close
     (tie.spec
     current-requires
