@@ -1,2 +1,3 @@
--- What the contracts of answering cite.
+-- What the contracts of answering cite: effects on the state, and answers with their replies.
+pub mod Effects
 pub mod Answered

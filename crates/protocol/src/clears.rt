@@ -1,30 +1,36 @@
 // CLEAR_ALL, over the plans of the three kinds.
 ghost use mathlib.Core.Path.{_≡_};
-ghost use mathlib.Core.List.{[], _∷_};
+ghost use mathlib.Core.Bool.{true, _||_};
 ghost use Prim.Native.Nat.{_≤_};
 ghost use lib.ListN.{length};
-ghost use Rattle.rules.specs.Limits.{replyBytesMin};
+ghost use lib.Dec.{eqb};
+ghost use Rattle.rules.specs.Limits.{everyKind, replyBytesMin};
 ghost use Rattle.rules.specs.Payload.{Bytes};
 ghost use Rattle.rules.specs.Messages.{station};
+ghost use Rattle.rules.specs.Calls.{isKnown};
 ghost use Rattle.rules.specs.Step.{covered};
 ghost use Rattle.protocol.specs.Doing.{DoneBy, othersAmong, clearEffect, clearDone};
+use answers::Effect;
 use answers::Handled;
 use answers::ack;
 use answers::only;
+use answers::renewal;
 use limits::ACCEPTED;
 use limits::DENIED;
 use limits::EVERY_KIND;
 use plan::Plan;
-use super::plan_of;
-use upload::Effect;
 use upload::updates::emptied;
 use upload::uploads::others_upload;
 
 // Whether another station has an upload of a kind that a clear covers.
-fn others_among(flight: Plan, fence: Plan, rally: Plan, system: u8, component: u8, kind: u8) -> bool
-    ensures { λ r. ⌜ r ≡ othersAmong (flight ∷ fence ∷ rally ∷ []) (station system component) (covered kind) ⌝ }
+fn others_among(plans: [Plan; 3], system: u8, component: u8, kind: u8) -> bool
+    requires { ⌜ (isKnown kind || eqb kind everyKind) ≡ true ⌝ }
+    ensures { λ r. ⌜ r ≡ othersAmong plans (station system component) (covered kind) ⌝ }
 {
     if kind == EVERY_KIND {
+        let flight = plans[0];
+        let fence = plans[1];
+        let rally = plans[2];
         let upload0 = flight.upload;
         let upload1 = fence.upload;
         let upload2 = rally.upload;
@@ -32,38 +38,43 @@ fn others_among(flight: Plan, fence: Plan, rally: Plan, system: u8, component: u
             | others_upload(upload1, system, component)
             | others_upload(upload2, system, component);
     }
-    let plan = plan_of(flight, fence, rally, kind);
+    let k = kind as usize;
+    let plan = plans[k];
     let upload = plan.upload;
     others_upload(upload, system, component)
 }
 
 // What a clear empties: the plan of a kind, or every one for 255.
-fn empties(flight: Plan, fence: Plan, rally: Plan, kind: u8) -> Effect
-    ensures { λ r. ⌜ r ≡ clearEffect (flight ∷ fence ∷ rally ∷ []) kind ⌝ }
+fn empties(plans: [Plan; 3], kind: u8) -> Effect
+    requires { ⌜ (isKnown kind || eqb kind everyKind) ≡ true ⌝ }
+    ensures { λ r. ⌜ r ≡ clearEffect plans kind ⌝ }
 {
     if kind == EVERY_KIND {
-        return Effect::EmptiesAll;
+        let flight = plans[0];
+        let fence = plans[1];
+        let rally = plans[2];
+        return Effect::Restarts(emptied(flight), emptied(fence), emptied(rally));
     }
-    Effect::Renews(emptied(plan_of(flight, fence, rally, kind)))
+    let k = kind as usize;
+    let plan = plans[k];
+    renewal(plans, kind, emptied(plan))
 }
 
 // CLEAR_ALL of a kind, or of every kind for 255: the ACK has the kind that was sent.
 pub fn clear(
-    flight: Plan,
-    fence: Plan,
-    rally: Plan,
+    plans: [Plan; 3],
     kind: u8,
     system: u8,
     component: u8,
     reply: &mut [u8],
 ) -> Handled
-    requires { ⌜ replyBytesMin ≤ length (now reply) ⌝ }
-    ensures { λ r. ⌜ ((store : Bytes) → DoneBy (clearDone (flight ∷ fence ∷ rally ∷ []) store (station system component) kind) store (now (reply .entry)) (now (reply .exit)) r) ⌝ }
+    requires { ⌜ ((isKnown kind || eqb kind everyKind) ≡ true) × (replyBytesMin ≤ length (now reply)) ⌝ }
+    ensures { λ r. ⌜ ((store : Bytes) → DoneBy (clearDone plans store (station system component) kind) store (now (reply .entry)) (now (reply .exit)) r) ⌝ }
 {
-    if others_among(flight, fence, rally, system, component, kind) {
+    if others_among(plans, system, component, kind) {
         return only(ack(DENIED, kind, 0, system, component, reply));
     }
     let said = ack(ACCEPTED, kind, 0, system, component, reply);
-    let effect = empties(flight, fence, rally, kind);
+    let effect = empties(plans, kind);
     Handled { effect, said }
 }

@@ -1,36 +1,33 @@
-// One message call that is not refused: kind first, then what its message does to one plan; and a timer call. The state itself stays with the public call: what
-// comes out is the effect on it.
+// One message call that is not refused: kind first, then what its message does; and a timer call. The state stays with the public call: the plans and the current
+// item go in, and what comes out is the effect on the state and what was said.
 mod clears;
 
 ghost use mathlib.Core.Path.{_≡_};
 ghost use mathlib.Core.Bool.{true};
-ghost use mathlib.Core.List.{[], _∷_};
-ghost use Prim.Native.Nat.{_≤_};
+ghost use Prim.Native.Nat.{ℕ, _≤_};
 ghost use lib.ListN.{length};
 ghost use Rattle.rules.specs.Limits.{rally, storeBytes, replyBytesMin};
 ghost use Rattle.rules.specs.Payload.{Bytes};
 ghost use Rattle.rules.specs.Layouts.{setCurrentId, clearAllId, ackId};
 ghost use Rattle.rules.specs.Messages.{station, decode};
+ghost use Rattle.rules.specs.Calls.{acknowledges};
 ghost use Rattle.rules.specs.Step.{kindOk};
 ghost use Rattle.message_table.specs.Table.{isRead};
 ghost use Rattle.ranges.specs.Ranges.{plansRanged};
-ghost use Rattle.ranges.specs.Ranged.{PlanRanges};
 ghost use Rattle.refusal.specs.Refusals.{requestOf};
-ghost use Rattle.answers.specs.Answered.{Handles};
-ghost use Rattle.protocol.specs.Doing.{DoneBy, planAmong, knownDone, planDone, messageDone, timerDone};
+ghost use Rattle.protocol.specs.Doing.{DoneBy, knownDone, messageDone, timerDone};
 use answers::Handled;
 use answers::ack;
+use answers::effect_of;
 use answers::only;
+use answers::silent;
 use answers::told;
 use clears::clear;
 use limits::EVERY_KIND;
-use limits::FENCE;
-use limits::FLIGHT;
 use limits::RALLY;
 use limits::UNSUPPORTED;
 use places::size_of;
 use plan::Plan;
-use plan::Upload;
 use taking::take_item;
 use upload::turns::on_ack;
 use upload::turns::on_count;
@@ -55,26 +52,25 @@ fn kind_ok(id: u32, kind: u8) -> bool
     }
 }
 
-// The plan of a kind; an empty one above the last kind.
-fn plan_of(flight: Plan, fence: Plan, rally: Plan, kind: u8) -> Plan
-    ensures { λ r. ⌜ r ≡ planAmong (flight ∷ fence ∷ rally ∷ []) kind ⌝ }
+// ACK is never answered: no reply buffer is lent to it. One of a kind above the last does nothing.
+fn acknowledge(plans: [Plan; 3], kind: u8, result: u8, system: u8, component: u8) -> Handled
+    ensures { λ r. ⌜ ((current : ℕ) (store : Bytes) (clock : ℕ) (b : Bytes) → DoneBy (knownDone plans current store (station system component) clock kind (acknowledges result)) store b b r) ⌝ }
 {
-    match kind {
-        FLIGHT => flight,
-        FENCE => fence,
-        RALLY => rally,
-        _ => Plan {
-            len: 0,
-            half: false,
-            number: 0,
-            upload: Upload::Idle,
-        },
+    if RALLY < kind {
+        return only(silent());
     }
+    let k = kind as usize;
+    let plan = plans[k];
+    let turned = on_ack(plan, system, component, result);
+    let turn = turned.turn;
+    let effect = effect_of(turn, plans, kind);
+    let said = silent();
+    Handled { effect, said }
 }
 
-// The messages that speak of the plan of a kind: REQUEST_LIST, COUNT, REQUEST_INT and ITEM_INT.
+// REQUEST_LIST, COUNT, REQUEST_INT and ITEM_INT: the messages that speak of the plan of one kind, and are answered.
 fn turn(
-    plan: Plan,
+    plans: [Plan; 3],
     current: u16,
     store: &mut [u8],
     reply: &mut [u8],
@@ -85,16 +81,18 @@ fn turn(
     own: &[u8; OWN_BYTES],
     clock: u32,
 ) -> Handled
-    requires { ⌜ (kind ≤ rally) × PlanRanges kind plan × (storeBytes ≤ length (now store)) × (replyBytesMin ≤ length (now reply)) ⌝ }
+    requires { ⌜ (kind ≤ rally) × (plansRanged plans ≡ true) × (storeBytes ≤ length (now store)) × (replyBytesMin ≤ length (now reply)) ⌝ }
     requires { ⌜ (isRead (decode id (now own)) ≡ true) × (id ≡ setCurrentId → ⊥) × (id ≡ clearAllId → ⊥) × (id ≡ ackId → ⊥) ⌝ }
-    ensures { λ r. ⌜ DoneBy (planDone plan current (now (store .entry)) (station system component) clock kind (requestOf (decode id (now (own .entry))))) (now (store .exit)) (now (reply .entry)) (now (reply .exit)) r ⌝ }
+    ensures { λ r. ⌜ DoneBy (knownDone plans current (now (store .entry)) (station system component) clock kind (requestOf (decode id (now (own .entry))))) (now (store .exit)) (now (reply .entry)) (now (reply .exit)) r ⌝ }
 {
+    let k = kind as usize;
+    let plan = plans[k];
     match id {
         REQUEST_LIST_ID => only(shown::list(plan, kind, system, component, reply)),
         COUNT_ID => {
             let m = wire::read_count(own);
             let turned = on_count(plan, system, component, clock, m.count, size_of(kind));
-            told(turned, kind, system, component, reply)
+            told(turned, plans, kind, system, component, reply)
         }
         REQUEST_INT_ID => {
             let m = wire::read_request_int(own);
@@ -105,16 +103,14 @@ fn turn(
             let m = wire::read_item_int(own);
             let item = m.item;
             let turned = take_item(plan, store, kind, system, component, clock, item);
-            told(turned, kind, system, component, reply)
+            told(turned, plans, kind, system, component, reply)
         }
     }
 }
 
-// A message of the kinds' plans and the current item, from a station.
+// A message from a station.
 pub fn answer(
-    flight: Plan,
-    fence: Plan,
-    rally: Plan,
+    plans: [Plan; 3],
     current: u16,
     store: &mut [u8],
     reply: &mut [u8],
@@ -125,8 +121,8 @@ pub fn answer(
     own: &[u8; OWN_BYTES],
     clock: u32,
 ) -> Handled
-    requires { ⌜ (plansRanged flight fence rally ≡ true) × (storeBytes ≤ length (now store)) × (replyBytesMin ≤ length (now reply)) × (isRead (decode id (now own)) ≡ true) ⌝ }
-    ensures { λ r. ⌜ DoneBy (messageDone (flight ∷ fence ∷ rally ∷ []) current (now (store .entry)) (station system component) clock kind (requestOf (decode id (now (own .entry))))) (now (store .exit)) (now (reply .entry)) (now (reply .exit)) r ⌝ }
+    requires { ⌜ (plansRanged plans ≡ true) × (storeBytes ≤ length (now store)) × (replyBytesMin ≤ length (now reply)) × (isRead (decode id (now own)) ≡ true) ⌝ }
+    ensures { λ r. ⌜ DoneBy (messageDone plans current (now (store .entry)) (station system component) clock kind (requestOf (decode id (now (own .entry))))) (now (store .exit)) (now (reply .entry)) (now (reply .exit)) r ⌝ }
 {
     if !kind_ok(id, kind) {
         return only(ack(UNSUPPORTED, kind, 0, system, component, reply));
@@ -134,32 +130,28 @@ pub fn answer(
     match id {
         SET_CURRENT_ID => {
             let m = wire::read_set_current(own);
-            shown::set_current(flight, fence, rally, m.seq, reply)
+            shown::set_current(plans, m.seq, reply)
         }
-        CLEAR_ALL_ID => clear(flight, fence, rally, kind, system, component, reply),
-        // An ACK says nothing back.
+        CLEAR_ALL_ID => clear(plans, kind, system, component, reply),
         ACK_ID => {
             let m = wire::read_ack(own);
-            let plan = plan_of(flight, fence, rally, kind);
-            let turned = on_ack(plan, system, component, m.result);
-            told(turned, kind, system, component, reply)
+            acknowledge(plans, kind, m.result, system, component)
         }
-        _ => {
-            let plan = plan_of(flight, fence, rally, kind);
-            turn(
-                plan, current, store, reply, kind, system, component, id, own, clock,
-            )
-        }
+        _ => turn(
+            plans, current, store, reply, kind, system, component, id, own, clock,
+        ),
     }
 }
 
-// A timer call of a kind's plan: its reply goes to the upload's station.
-pub fn expire(plan: Plan, kind: u8, clock: u32, reply: &mut [u8]) -> Handled
-    requires { ⌜ replyBytesMin ≤ length (now reply) ⌝ }
-    ensures { λ r. ⌜ ((store : Bytes) → Handles (timerDone plan store clock kind .effect) (timerDone plan store clock kind .answer) (now (reply .entry)) (now (reply .exit)) r) ⌝ }
+// A timer call of a kind: its reply goes to the station of the kind's upload.
+pub fn expire(plans: [Plan; 3], kind: u8, clock: u32, reply: &mut [u8]) -> Handled
+    requires { ⌜ (kind ≤ rally) × (replyBytesMin ≤ length (now reply)) ⌝ }
+    ensures { λ r. ⌜ ((store : Bytes) → DoneBy (timerDone plans store clock kind) store (now (reply .entry)) (now (reply .exit)) r) ⌝ }
 {
+    let k = kind as usize;
+    let plan = plans[k];
     let held = plan.upload;
     let to = station_of(held);
     let turned = on_timer(plan, clock);
-    told(turned, kind, to.system, to.component, reply)
+    told(turned, plans, kind, to.system, to.component, reply)
 }

@@ -1,3 +1,2 @@
--- The steps of one kind's upload over the state's records, mirroring the code, and the state after what a call does.
+-- The steps of one kind's upload over the state's records, mirroring the code.
 pub mod Turns
-pub mod Effects

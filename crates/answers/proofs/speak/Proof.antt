@@ -25,11 +25,14 @@ module _ (say : Say) (system component kind : ℕ) (b b′ : Bytes) where
       → Spoken (answerOf say (station system component) kind) b b′ (said replied requestIntId n)
   asked seq n enough e w = rw e (written-spoken (requestInt (station system component) seq kind) b b′ n enough w)
 
-quiet : (say : Say) (system component kind : ℕ) (b : Bytes) → say ≡ Silent → Spoken (answerOf say (station system component) kind) b b (said noReply 0 0)
-quiet say system component kind b e = rw e (spoken-silent b)
+quiet : (say : Say) (system component kind : ℕ) (b : Bytes) (r : Said) → say ≡ Silent → r ≡ said noReply 0 0 → Spoken (answerOf say (station system component) kind) b b r
+quiet say system component kind b r e er = rw (e, er) (spoken-silent b)
 
 enum-told : tie.Need-enum-told
 enum-told c = search needs
+
+silent-requires : tie.Need-silent-requires
+silent-requires c κs = search needs
 
 enum-known-say : tie.Need-enum-known-say
 enum-known-say c = search needs
@@ -66,6 +69,7 @@ speak-spec =
     tie.close
     (tie.spec
     enum-told
+    silent-requires
     enum-known-say
     ack-requires
     enum-known-say-2
