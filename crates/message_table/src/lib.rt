@@ -77,7 +77,7 @@ pub struct Head {
     pub kind: u8,
 }
 
-// A payload as it is read, once: whether messages of its id are read here, its head, and its own bytes.
+// A payload as it is read, once: whether messages of its id are read here, its head, and its own bytes, zero-filled.
 pub struct Received {
     pub read: bool,
     pub head: Head,
