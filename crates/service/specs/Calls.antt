@@ -9,14 +9,14 @@ use Rattle.rules.specs.Calls.{Call, refuses, heard}
 use Rattle.rules.specs.Step.{refused}
 use Rattle.plan.specs.declared.State.{State}
 use Rattle.plan.specs.View.{view}
-use Rattle.states.specs.Whole.{gives}
 use Rattle.refusal.specs.Refusals.{refusalOf, refused-with}
-use Rattle.answers.specs.declared.Served.{Served}
 use Rattle.plan_search.specs.Orders.{orderOf}
 use Rattle.refine.specs.Promise as promise
 use Rattle.refine.specs.Promise.{Result, halfOf, spare}
+use Rattle.refine.specs.After.{gives}
 use Rattle.refine.specs.Steps.{refused-steps}
 use Rattle.refine.specs.Serving.{steps-serve}
+use Rattle.service.specs.declared.Served.{Served}
 use Rattle.service.specs.declared.Advanced.{Advanced}
 
 -- Call c on state st, store s and reply buffer b gives the result r, store s′ and buffer b′, as the rules settle it.

@@ -1,17 +1,32 @@
 // The drone's mission service: a fresh start, a message, a timer call and "command done". These are its only public calls; none asks anything of its
-// caller. What each promises is `Serves` of specs/Calls.antt, over the rules' own step.
+// caller, and no function below them takes or gives the state. What each promises is `Serves` of specs/Calls.antt, over the rules' own step.
 ghost use lib.ListN.{length};
 ghost use mathlib.Core.List.{[]};
 ghost use Rattle.rules.specs.Messages.{station};
 ghost use Rattle.rules.specs.Calls as calls;
 ghost use Rattle.service.specs.Calls.{Serves, servedResult, advanceResult};
-use answers::Served;
-use answers::say::NO_REPLY;
+use answers::Effect;
+use answers::NO_REPLY;
 use command::Command;
+use message_table::receive;
 use plan::State;
+use protocol::answer;
+use protocol::expire;
+use ranges::ranged;
+use refusal::done_refusal;
+use refusal::message_refusal;
+use refusal::timer_refusal;
 
 // A fresh start: every plan empty, item 0 the current one and not begun.
 pub use plan::fresh;
+
+// What a message or a timer call returns beside the store and the reply buffer: the state after it, its outcome, and the reply's id and length.
+pub struct Served {
+    pub state: State,
+    pub outcome: u8,
+    pub id: u32,
+    pub len: usize,
+}
 
 // What a "command done" call returns: the state after it, its outcome, and the command.
 pub struct Advanced {
@@ -22,7 +37,7 @@ pub struct Advanced {
 
 // A message call. Wrong answers that this rules out: refusing everything, and a reply that goes to another station than the sender.
 pub fn message(
-    state: State,
+    mut state: State,
     store: &mut [u8],
     reply: &mut [u8],
     own_system: u8,
@@ -35,15 +50,19 @@ pub fn message(
 ) -> Served
     ensures { λ r. ⌜ Serves (calls.message (station «own_system» «own_component») (station system component) id (now (payload .entry)) clock (length (now (store .entry))) (length (now (reply .entry)))) state (now (store .entry)) (now (store .exit)) (now (reply .entry)) (now (reply .exit)) (servedResult r) ⌝ }
 {
-    let ranged = ranges::ranged(state);
-    let refused = refusal::message_refusal(
-        ranged,
+    let plans = state.plans;
+    let in_range = ranged(plans, state.current, &state.counts);
+    let got = receive(id, payload);
+    let head = got.head;
+    let refused = message_refusal(
+        in_range,
         store.len(),
         reply.len(),
         own_system,
         own_component,
-        id,
-        payload,
+        payload.len(),
+        got.read,
+        head,
     );
     if refused != 0 {
         return Served {
@@ -53,15 +72,51 @@ pub fn message(
             len: 0,
         };
     }
-    protocol::answer(state, store, reply, system, component, id, payload, clock)
+    let kind = head.kind;
+    let done = answer(
+        plans,
+        state.current,
+        store,
+        reply,
+        kind,
+        system,
+        component,
+        id,
+        &got.own,
+        clock,
+    );
+    let said = done.said;
+    let effect = done.effect;
+    match effect {
+        Effect::Nothing => {}
+        Effect::Turns(plan) => {
+            state.plans[kind as usize] = plan;
+        }
+        Effect::Restarts(flight, fence, rally) => {
+            let after = [flight, fence, rally];
+            state = fresh();
+            state.plans = after;
+        }
+        Effect::Chooses(seq) => {
+            state.current = seq;
+            state.begun = false;
+        }
+    }
+    Served {
+        state,
+        outcome: said.outcome,
+        id: said.id,
+        len: said.len,
+    }
 }
 
 // A timer call for one kind. Wrong answers that this rules out: refusing everything, and expiries by another clock than the one handed in.
-pub fn timer(state: State, store: &[u8], reply: &mut [u8], kind: u8, clock: u32) -> Served
+pub fn timer(mut state: State, store: &[u8], reply: &mut [u8], kind: u8, clock: u32) -> Served
     ensures { λ r. ⌜ Serves (calls.timer kind clock (length (now (store .entry))) (length (now (reply .entry)))) state (now (store .entry)) (now (store .entry)) (now (reply .entry)) (now (reply .exit)) (servedResult r) ⌝ }
 {
-    let ranged = ranges::ranged(state);
-    let refused = refusal::timer_refusal(ranged, store.len(), reply.len(), kind);
+    let plans = state.plans;
+    let in_range = ranged(plans, state.current, &state.counts);
+    let refused = timer_refusal(in_range, store.len(), reply.len(), kind);
     if refused != 0 {
         return Served {
             state,
@@ -70,15 +125,27 @@ pub fn timer(state: State, store: &[u8], reply: &mut [u8], kind: u8, clock: u32)
             len: 0,
         };
     }
-    messages::on_timer(state, kind, clock, reply)
+    let done = expire(plans, kind, clock, reply);
+    let said = done.said;
+    let effect = done.effect;
+    if let Effect::Turns(plan) = effect {
+        state.plans[kind as usize] = plan;
+    }
+    Served {
+        state,
+        outcome: said.outcome,
+        id: said.id,
+        len: said.len,
+    }
 }
 
 // A "command done" call. Wrong answers that this rules out: an answer without moving on to its item, and outcome 0, as if a message had been written.
-pub fn advance(state: State, store: &[u8]) -> Advanced
+pub fn advance(mut state: State, store: &[u8]) -> Advanced
     ensures { λ r. ⌜ Serves (calls.done (length (now (store .entry)))) state (now (store .entry)) (now (store .entry)) [] [] (advanceResult r) ⌝ }
 {
-    let ranged = ranges::ranged(state);
-    let refused = refusal::done_refusal(ranged, store.len());
+    let plans = state.plans;
+    let in_range = ranged(plans, state.current, &state.counts);
+    let refused = done_refusal(in_range, store.len());
     if refused != 0 {
         return Advanced {
             state,
@@ -86,11 +153,18 @@ pub fn advance(state: State, store: &[u8]) -> Advanced
             command: Command::Stuck,
         };
     }
-    let next = next_command::next(state, store);
-    let after = next.state;
-    let command = next.command;
+    let flight = plans[0];
+    let counts = state.counts;
+    let found = next_command::next(store, flight, state.current, state.begun, counts);
+    if found.stands {
+        let runs = found.counts;
+        state.current = found.n;
+        state.begun = true;
+        state.counts = runs;
+    }
+    let command = found.command;
     Advanced {
-        state: after,
+        state,
         outcome: NO_REPLY,
         command,
     }

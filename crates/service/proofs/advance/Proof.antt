@@ -1,44 +1,48 @@
--- A refused call by the refusal's number, and Stuck; any other by the next command.
-use Rattle.rules.specs.Calls.{done}
-use Rattle.service.specs.Calls.{refused-serves}
-use mathlib.Core.List.{[]}
-use Rattle.service.proofs.Ways.{done-long, done-ranged, done-serves}
 use borrow.Author.Needs.{needs}
 use Rattle.service.proofs.advance.Statement.{statement}
 use Rattle.service.proofs.advance.Tie as tie
+use Rattle.service.proofs.advance.Reads as reads
+use Rattle.service.proofs.advance.Lts as lts
+use Rattle.next_command.proofs.next.Reads as next-reads
+use Rattle.ranges.proofs.ranged.Reads as ranged-reads
+use Rattle.refusal.proofs.done_refusal.Reads as done-refusal-reads
 
+-- src/lib.rt:147:9
 ranged-requires : tie.Need-ranged-requires
 ranged-requires c κs = search needs
 
+-- src/lib.rt:148:9
 done-refusal-requires : tie.Need-done-refusal-requires
 done-refusal-requires c κs = search needs
 
+-- src/lib.rt:150:9
 returns : tie.Need-returns
-returns c =
-    let a = c .before .before .before .before .args in
-    let ranged = c .before .before .ranged in
-    let refusal = c .before .done-refusal in
-    refused-serves (done _) (a .state) (a .store .now) [] (ranged .result) (refusal .result) (ranged .ensures .0 (a .store .now)) (refusal .ensures) (c .if1 .taken)
+returns c = ?
 
+-- src/lib.rt:156:18
+array-copy-out-flight : tie.Need-array-copy-out-flight
+array-copy-out-flight c = search needs
+
+-- src/lib.rt:158:9
 next-requires : tie.Need-next-requires
-next-requires c κs =
-    let a = c .before .before .before .before .args in
-    let ranged = c .before .before .ranged in
-    let refusal = c .before .done-refusal in
-    let in-range = ranged .ensures .0 (a .store .now) in (
-      done-long (a .state) (a .store .now) (ranged .result) (refusal .result) in-range (refusal .ensures) (c .if1 .left),
-      done-ranged (a .state) (a .store .now) (ranged .result) (refusal .result) in-range (refusal .ensures) (c .if1 .left),
-    )
+next-requires c κs = ?
 
+-- src/lib.rt:143:1
 returns-2 : tie.Need-returns-2
-returns-2 c =
-    let a = c .before .before .before .before .before .before .args in
-    let ranged = c .before .before .before .before .ranged in
-    let refusal = c .before .before .before .done-refusal in
-    let next = c .before .next in
-    done-serves (a .state) (a .store .now) (ranged .result) (refusal .result) (ranged .ensures .0 (a .store .now)) (refusal .ensures) (c .before .before .if1 .left)
-    (ranged .ensures .1) (next .result) (next .ensures)
+returns-2 c = ?
+
+-- src/lib.rt:143:1
+returns-3 : tie.Need-returns-3
+returns-3 c = ?
 
 pub advance-spec : {M : Type 1} → statement M
 advance-spec =
-    tie.close (tie.spec ranged-requires done-refusal-requires returns next-requires returns-2)
+    tie.close
+    (tie.spec
+    ranged-requires
+    done-refusal-requires
+    returns
+    array-copy-out-flight
+    next-requires
+    returns-2
+    returns-3)

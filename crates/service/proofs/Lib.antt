@@ -1,2 +1,0 @@
--- The ways of the public calls.
-mod Ways
