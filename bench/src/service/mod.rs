@@ -272,14 +272,7 @@ impl Service {
         write(reply, COUNT, &[c0, c1, sender.system, sender.component, kind, n0, n1, n2, n3])
     }
 
-    fn count(
-        &mut self,
-        sender: Station,
-        count: u16,
-        kind: u8,
-        clock: u32,
-        reply: Out,
-    ) -> Served {
+    fn count(&mut self, sender: Station, count: u16, kind: u8, clock: u32, reply: Out) -> Served {
         let Some(plan) = self.plans.get_mut(usize::from(kind)) else {
             return ack(reply, sender, result::UNSUPPORTED, kind, 0);
         };
@@ -294,14 +287,8 @@ impl Service {
             self.empty(usize::from(kind));
             return ack(reply, sender, result::ACCEPTED, kind, 0);
         }
-        plan.upload = Some(Upload {
-            station: sender,
-            count,
-            next: 0,
-            started: clock,
-            repeats: 0,
-            jumps: 0,
-        });
+        plan.upload =
+            Some(Upload { station: sender, count, next: 0, started: clock, repeats: 0, jumps: 0 });
         request(reply, 0, sender, kind)
     }
 
