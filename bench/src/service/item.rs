@@ -1,6 +1,6 @@
 //! A mission item, and when it is valid.
 
-use super::{result, Station, FENCE, FLIGHT, ITEM_BYTES, MOST_JUMPS, RALLY};
+use super::{result, FENCE, FLIGHT, ITEM_BYTES, MOST_JUMPS, RALLY};
 
 pub const DO_JUMP: u16 = 177;
 pub const RETURN_POINT: u16 = 5000;
@@ -44,15 +44,6 @@ impl Item {
 
     pub fn kind(&self) -> u8 {
         self.0[37]
-    }
-
-    /// The item as a reply has it.
-    pub fn sent_to(&self, station: Station, current: bool) -> Item {
-        let mut item = *self;
-        item.0[32] = station.system;
-        item.0[33] = station.component;
-        item.0[35] = u8::from(current);
-        item
     }
 }
 

@@ -1,12 +1,14 @@
 //! The drone's mission service in plain Rust, written to be quick: message and timer calls as document 01 and its amendments have them. The state is kept
 //! by `&mut`, the plans are arrays of items, and no call allocates. What a store would hold stands in the arrays; of a lent store the length alone counts.
 
+mod copy;
 mod fence;
 mod item;
 mod reply;
 
+use copy::copy;
 use item::{verdict, Item, DO_JUMP};
-use reply::{write, Out};
+use reply::{write, write_item, Out};
 
 /// The ids that are read.
 pub const SET_CURRENT: u32 = 41;
@@ -177,7 +179,9 @@ impl Service {
         if call.payload.is_empty() {
             return without_reply(outcome::EMPTY_PAYLOAD);
         }
-        self.answer(call, &zero_filled(call.payload), reply)
+        let mut bytes = [0; ITEM_BYTES];
+        copy(&call.payload[..call.payload.len().min(ITEM_BYTES)], &mut bytes);
+        self.answer(call, &Item(bytes), reply)
     }
 
     /// A timer call for one kind.
@@ -225,8 +229,9 @@ impl Service {
             && self.runs.iter().fold(0, |all, runs| all | runs) <= MOST_RUNS
     }
 
-    /// What each message does that is for us.
-    fn answer(&mut self, call: &Message, p: &[u8; ITEM_BYTES], reply: Out) -> Served {
+    /// What each message does that is for us; its payload stands at the start of an item.
+    fn answer(&mut self, call: &Message, item: &Item, reply: Out) -> Served {
+        let p = &item.0;
         let sender = call.sender;
         let for_us = |at: usize| {
             (p[at] == call.own.system || p[at] == 0)
@@ -239,7 +244,7 @@ impl Service {
             CLEAR_ALL if for_us(0) => self.clear_all(sender, p[2], reply),
             ACK if for_us(0) => self.acknowledged(sender, p[2], p[3]),
             REQUEST_INT if for_us(2) => self.request_int(sender, u16_at(p, 0), p[4], reply),
-            ITEM_INT if for_us(32) => self.item_int(sender, Item(*p), call.clock, reply),
+            ITEM_INT if for_us(32) => self.item_int(sender, item, call.clock, reply),
             SET_CURRENT | REQUEST_LIST | COUNT | CLEAR_ALL | ACK | REQUEST_INT | ITEM_INT => {
                 without_reply(outcome::NOT_FOR_US)
             }
@@ -328,10 +333,10 @@ impl Service {
         }
         let current = index == FLIGHT && seq == self.current;
         let item = &self.items[usize::from(plan.half)][FIRST[index] + usize::from(seq)];
-        write(reply, ITEM_INT, &item.sent_to(sender, current).0)
+        write_item(reply, item, sender, current)
     }
 
-    fn item_int(&mut self, sender: Station, item: Item, clock: u32, reply: Out) -> Served {
+    fn item_int(&mut self, sender: Station, item: &Item, clock: u32, reply: Out) -> Served {
         let kind = item.kind();
         let index = usize::from(kind);
         let Some(plan) = self.plans.get_mut(index) else {
@@ -346,13 +351,13 @@ impl Service {
         if item.seq() != upload.next {
             return request(reply, upload.next, sender, kind);
         }
-        let verdict = verdict(&item, index, upload.count, usize::from(upload.jumps));
+        let verdict = verdict(item, index, upload.count, usize::from(upload.jumps));
         if verdict != result::ACCEPTED {
             plan.upload = None;
             return ack(reply, sender, verdict, kind, 0);
         }
         let half = &mut self.items[usize::from(1 - plan.half)];
-        half[FIRST[index] + usize::from(upload.next)] = item;
+        half[FIRST[index] + usize::from(upload.next)] = *item;
         upload.jumps += u8::from(item.command() == DO_JUMP);
         upload.next += 1;
         if upload.next == upload.count {
@@ -392,17 +397,6 @@ impl Service {
         self.begun = false;
         self.runs = [0; MOST_JUMPS];
     }
-}
-
-/// The first bytes of a payload; missing ones are zero. No message that is read has more.
-#[inline(always)]
-fn zero_filled(payload: &[u8]) -> [u8; ITEM_BYTES] {
-    if let Some(bytes) = payload.first_chunk() {
-        return *bytes;
-    }
-    let mut bytes = [0; ITEM_BYTES];
-    bytes[..payload.len()].copy_from_slice(payload);
-    bytes
 }
 
 fn u16_at(bytes: &[u8; ITEM_BYTES], at: usize) -> u16 {
