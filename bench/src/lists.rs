@@ -3,9 +3,10 @@
 use bench::service::*;
 use bench::slots::{self, MESSAGE, MOST_PAYLOAD, SLOT, TIMER};
 
-/// The lists by name.
-pub const LISTS: [(&str, fn(usize) -> Vec<u8>); 3] =
-    [("mixed", mixed), ("jumps", jumps), ("timers", timers)];
+/// A list: its name, and its slots for so many calls.
+type List = (&'static str, fn(usize) -> Vec<u8>);
+
+pub const LISTS: [List; 3] = [("mixed", mixed), ("jumps", jumps), ("timers", timers)];
 
 const OWN: Station = Station { system: 1, component: 1 };
 const STATIONS: [Station; 4] = [
@@ -157,7 +158,8 @@ fn item(kind: usize, seq: usize, command: u16, frame: u8, params: [f32; 4]) -> P
     bytes[24..28].copy_from_slice(&(10.0 + seq as f32 / 4.0).to_le_bytes());
     bytes[28..30].copy_from_slice(&(seq as u16).to_le_bytes());
     bytes[30..32].copy_from_slice(&command.to_le_bytes());
-    bytes[32..].copy_from_slice(&[OWN.system, OWN.component, frame, 0, 1, kind as u8]);
+    let autocontinue = u8::from(seq % 8 != 5);
+    bytes[32..].copy_from_slice(&[OWN.system, OWN.component, frame, 0, autocontinue, kind as u8]);
     bytes
 }
 

@@ -10,8 +10,9 @@ mod trim;
 use std::process::ExitCode;
 
 /// A thing that can be measured: its name, and what measures it, in brief or not.
-const MEASUREMENTS: [(&str, fn(bool) -> Result<(), String>); 2] =
-    [("trim", trim::run), ("replay", replay::run)];
+type Measurement = (&'static str, fn(bool) -> Result<(), String>);
+
+const MEASUREMENTS: [Measurement; 2] = [("trim", trim::run), ("replay", replay::run)];
 
 fn measure(name: &str, brief: bool) -> Option<Result<(), String>> {
     let (_, measured) = MEASUREMENTS.iter().find(|(known, _)| *known == name)?;

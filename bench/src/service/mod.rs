@@ -179,9 +179,9 @@ impl Service {
         if call.payload.is_empty() {
             return without_reply(outcome::EMPTY_PAYLOAD);
         }
-        let mut bytes = [0; ITEM_BYTES];
-        copy(&call.payload[..call.payload.len().min(ITEM_BYTES)], &mut bytes);
-        self.answer(call, &Item(bytes), reply)
+        let mut item = Item::EMPTY;
+        copy(&call.payload[..call.payload.len().min(ITEM_BYTES)], &mut item.0);
+        self.answer(call, &item, reply)
     }
 
     /// A timer call for one kind.
@@ -358,7 +358,9 @@ impl Service {
         }
         let half = &mut self.items[usize::from(1 - plan.half)];
         half[FIRST[index] + usize::from(upload.next)] = *item;
-        upload.jumps += u8::from(item.command() == DO_JUMP);
+        if item.command() == DO_JUMP {
+            upload.jumps += 1;
+        }
         upload.next += 1;
         if upload.next == upload.count {
             return self.finish(sender, index, reply);

@@ -21,18 +21,21 @@ pub fn write<const FULL: usize>(reply: Out, id: u32, bytes: &[u8; FULL]) -> Serv
 /// Writes a stored item with the address and the current field of this reply.
 #[inline(always)]
 pub fn write_item(reply: Out, item: &Item, to: Station, current: bool) -> Served {
-    let set = [(32, to.system), (33, to.component), (35, u8::from(current))];
-    let shown =
-        |at| set.iter().find(|(place, _)| *place == at).map_or(item.0[at], |(_, byte)| *byte);
-    let mut len = ITEM_BYTES;
-    while len > 1 && shown(len - 1) == 0 {
-        len -= 1;
-    }
-    copy(&item.0[..len], reply);
-    for (at, byte) in set {
-        if at < len {
-            reply[at] = byte;
+    let of_this_reply = |bytes: &mut [u8]| {
+        bytes[32] = to.system;
+        bytes[33] = to.component;
+        bytes[35] = u8::from(current);
+    };
+    let len = match item.0 {
+        [.., 0, 0] => {
+            let mut bytes = item.0;
+            of_this_reply(&mut bytes);
+            return write(reply, ITEM_INT, &bytes);
         }
-    }
+        [.., 0] => ITEM_BYTES - 1,
+        _ => ITEM_BYTES,
+    };
+    copy(&item.0[..len], reply);
+    of_this_reply(reply);
     Served { outcome: outcome::REPLY, id: ITEM_INT, len }
 }
