@@ -3,7 +3,10 @@
 mod agree;
 mod lists;
 mod measure;
+mod mixed;
 mod plain;
+mod plans;
+mod random;
 mod replay;
 mod trim;
 
