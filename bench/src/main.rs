@@ -6,6 +6,7 @@ mod measure;
 mod mixed;
 mod plain;
 mod plans;
+mod programs;
 mod random;
 mod replay;
 mod trim;
@@ -33,8 +34,8 @@ fn main() -> ExitCode {
     };
     match measured {
         Some(Ok(())) => ExitCode::SUCCESS,
-        Some(Err(difference)) => {
-            eprintln!("bench: the two differ: {difference}");
+        Some(Err(error)) => {
+            eprintln!("bench: {error}");
             ExitCode::FAILURE
         }
         None => {

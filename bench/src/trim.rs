@@ -101,7 +101,10 @@ fn lines(effort: &Effort, what: &str, measured: fn(&Effort, &[u8]) -> Times) -> 
 pub fn run(brief: bool) -> Result<(), String> {
     let effort = &if brief { BRIEF } else { WHOLE };
     let texts = texts().map(|(_, bytes)| bytes);
-    let compared = agree(&OURS, &BY_RPOSITION, &texts)? + agree(&OURS, &BY_LOOP, &texts)?;
+    let agree = |other| {
+        agree(&OURS, other, &texts).map_err(|difference| format!("the two differ: {difference}"))
+    };
+    let compared = agree(&BY_RPOSITION)? + agree(&BY_LOOP)?;
     println!("bench: the same lengths and bytes from both on {compared} inputs");
     println!("{} calls, the least of {} runs in turn", effort.calls, effort.runs);
     lines(effort, "length", length);

@@ -5,6 +5,8 @@ mod copy;
 mod fence;
 mod item;
 mod reply;
+#[cfg(test)]
+mod tests;
 
 use copy::copy;
 use item::{verdict, Item, DO_JUMP};
