@@ -105,7 +105,10 @@ fn same_told(calls: &[u8], ours: &[u8], plain: &[u8]) -> Result<(), String> {
         return Ok(());
     };
     let slot = at * SLOT..(at + 1) * SLOT;
-    let [call, ours, plain] = [calls, ours, plain].map(|bytes| &bytes[slot.clone()]);
+    let [call, ours, plain] = [calls, ours, plain].map(|bytes| {
+        let slot = &bytes[slot.clone()];
+        &slot[..slot.iter().rposition(|byte| *byte != 0).map_or(0, |last| last + 1)]
+    });
     Err(format!("the two services differ in call {at}, {call:?}: {ours:?} and {plain:?}"))
 }
 

@@ -212,6 +212,7 @@ impl Service {
     }
 
     /// The refusals 14, 15 and 10, in this order, or the part of the reply buffer that is written.
+    #[inline(always)]
     fn admitted<'a>(&self, store: usize, reply: &'a mut [u8]) -> Result<Out<'a>, u8> {
         if store < STORE_BYTES {
             return Err(outcome::SHORT_STORE);
