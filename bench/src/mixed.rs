@@ -4,7 +4,7 @@ use bench::service::*;
 use bench::slots::MOST_PAYLOAD;
 
 use crate::lists::{Writer, STATIONS};
-use crate::plans::{broken, item, plan, OWN};
+use crate::plans::{changed, item, plan, OWN};
 
 pub fn mixed(calls: usize) -> Vec<u8> {
     let mut writer = Writer::new(calls, 1);
@@ -185,8 +185,8 @@ impl Writer {
         self.send_somehow(sender, REQUEST_INT, &[s0, s1, OWN.system, OWN.component, shown], 2);
     }
 
-    /// Mostly the item that an upload expects; some are out of turn, some another station's, and few are invalid. After an upload of full size its kind may be
-    /// quiet for a while.
+    /// Mostly the item that an upload expects; some are out of turn, some another station's, and few are invalid but in a quiet kind. After an upload of full size
+    /// its kind may be quiet for a while.
     fn some_item(&mut self) {
         let kind = self.kind_by_size(|plan| plan.upload.is_some());
         let Some((station, next)) = self.expected(kind) else {
@@ -196,10 +196,11 @@ impl Writer {
         let expected = self.uploads[kind][next];
         let other = self.random.of(&self.uploads[kind]);
         let (sender, sent) = match self.random.below(5_000) {
-            0 => (station, broken(&mut self.random, expected)),
+            0 => (station, changed(&mut self.random, expected)),
             1..=100 if other != expected => (station, other),
-            101..=200 if other != expected => (station, broken(&mut self.random, other)),
+            101..=200 if other != expected => (station, changed(&mut self.random, other)),
             201..=300 => (self.another_station(kind), expected),
+            301..=3_000 if self.is_quiet(kind) => (station, changed(&mut self.random, expected)),
             _ => (station, expected),
         };
         self.send_somehow(sender, ITEM_INT, &sent, 32);

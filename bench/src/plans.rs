@@ -85,15 +85,47 @@ pub fn plan(random: &mut Random, kind: usize, count: usize) -> Vec<Payload> {
     }
 }
 
-/// An item that is not valid any more, of the same number.
-pub fn broken(random: &mut Random, mut item: Payload) -> Payload {
-    match random.below(6) {
-        0 => item[30..32].copy_from_slice(&30u16.to_le_bytes()),
-        1 => item[34] = 1,
-        2 => item[16..20].copy_from_slice(&900_000_001i32.to_le_bytes()),
-        3 => item[20..24].copy_from_slice(&i32::MIN.to_le_bytes()),
-        4 => item[24..28].copy_from_slice(&f32::INFINITY.to_le_bytes()),
-        _ => item[..4].copy_from_slice(&(-1.5f32).to_le_bytes()),
+/// Params at the edges of the rules on them.
+const PARAMS: [f32; 22] = [
+    f32::NAN,
+    f32::INFINITY,
+    f32::NEG_INFINITY,
+    -0.0,
+    0.5,
+    1.0,
+    -1.0,
+    -2.0,
+    2.0,
+    3.0,
+    16.0,
+    17.0,
+    64.0,
+    65.0,
+    255.0,
+    256.0,
+    360.0,
+    361.0,
+    500.0,
+    2500.0,
+    32_768.0,
+    2_147_483_648.0,
+];
+
+/// An item of the same number with one field changed, so that most are not valid any more.
+pub fn changed(random: &mut Random, mut item: Payload) -> Payload {
+    let param = random.of(&PARAMS).to_le_bytes();
+    match random.below(7) {
+        0 => {
+            item[30..32].copy_from_slice(&random.of(&[30u16, 16, 20, 177, 183, 5001]).to_le_bytes())
+        }
+        1 => item[34] = random.of(&[1, 2, 4, 255]),
+        2 => item[..4].copy_from_slice(&param),
+        3 => item[4..8].copy_from_slice(&param),
+        4 => {
+            item[16..20].copy_from_slice(&random.of(&[900_000_001i32, -900_000_000]).to_le_bytes())
+        }
+        5 => item[20..24].copy_from_slice(&random.of(&[i32::MIN, 1_800_000_000]).to_le_bytes()),
+        _ => item[24..28].copy_from_slice(&param),
     }
     item
 }
