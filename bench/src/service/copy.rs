@@ -1,8 +1,9 @@
 //! A message's few bytes, copied in line.
 
-/// Copies bytes to the start of others, by two blocks of one size that may overlap. At most 48 are copied so; a call for as few takes longer.
+/// Copies at most 48 bytes to the start of others, by blocks of which the last may overlap the one before: a call for so few takes longer.
 #[inline(always)]
 pub fn copy(from: &[u8], to: &mut [u8]) {
+    debug_assert!(from.len() <= 48);
     match from.len() {
         0..4 => {
             for (to, from) in to.iter_mut().zip(from) {
