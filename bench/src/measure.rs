@@ -9,10 +9,6 @@ pub struct Effort {
     pub runs: usize,
 }
 
-pub const WHOLE: Effort = Effort { calls: 1_000_000, runs: 20 };
-/// Enough to see that everything runs; its times say nothing.
-pub const BRIEF: Effort = Effort { calls: 1_000, runs: 1 };
-
 /// A way to do a thing: its name, and a run of so many calls, in seconds.
 pub struct Way<'a> {
     name: &'static str,

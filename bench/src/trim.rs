@@ -2,10 +2,17 @@
 
 use std::hint::black_box;
 
+use bench::ours;
+
 use crate::agree::{agree, fields, Trimmer};
 use crate::measure::{compare, way, Effort, Line, Times};
-use crate::ours;
+
 use crate::plain::{self, FULL};
+
+/// Calls of a run, and runs of each way.
+const WHOLE: Effort = Effort { calls: 1_000_000, runs: 20 };
+/// Enough to see that everything runs; its times say nothing.
+const BRIEF: Effort = Effort { calls: 1_000, runs: 1 };
 
 pub const OURS: Trimmer = Trimmer { length: ours::length, trim: ours::trim, write: ours::write };
 pub const BY_RPOSITION: Trimmer = Trimmer {
@@ -91,9 +98,13 @@ fn lines(effort: &Effort, what: &str, measured: fn(&Effort, &[u8]) -> Times) -> 
 }
 
 /// Compares, measures, and prints; the last line is trimming's largest ratio.
-pub fn run(effort: &Effort) -> Result<(), String> {
+pub fn run(brief: bool) -> Result<(), String> {
+    let effort = &if brief { BRIEF } else { WHOLE };
     let texts = texts().map(|(_, bytes)| bytes);
-    let compared = agree(&OURS, &BY_RPOSITION, &texts)? + agree(&OURS, &BY_LOOP, &texts)?;
+    let agree = |other| {
+        agree(&OURS, other, &texts).map_err(|difference| format!("the two differ: {difference}"))
+    };
+    let compared = agree(&BY_RPOSITION)? + agree(&BY_LOOP)?;
     println!("bench: the same lengths and bytes from both on {compared} inputs");
     println!("{} calls, the least of {} runs in turn", effort.calls, effort.runs);
     lines(effort, "length", length);
