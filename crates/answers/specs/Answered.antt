@@ -9,11 +9,11 @@ use Rattle.rules.specs.Payload.{Bytes}
 use Rattle.rules.specs.Messages.{Station, Message, ack, requestInt, idOf, encode}
 use Rattle.rule_laws.specs.Layout.{encode-fits}
 use Rattle.rules.specs.Step.{Answer, silent, says, outcomeOf, replyId, replyBytes, ReadsBack}
+use Rattle.upload.specs.declared.Effect.{Effect}
 use Rattle.upload.specs.declared.Say.{Say}
 use Rattle.upload.specs.declared.Say.the-variants.{Silent, Ack, Ask}
 use Rattle.trimming.specs.Written.{Trimmed}
 use Rattle.reply.specs.Written.{Wrote}
-use Rattle.answers.specs.declared.Effect.{Effect}
 use Rattle.answers.specs.declared.Said.{Said}
 use Rattle.answers.specs.declared.Handled.{Handled}
 

@@ -1,3 +1,2 @@
--- What the contracts of answering cite: effects on the state, and answers with their replies.
-pub mod Effects
+-- What the contracts of answering cite.
 pub mod Answered

@@ -6,12 +6,9 @@ ghost use Rattle.rules.specs.Limits.{noReply, replyBytesMin};
 ghost use Rattle.rules.specs.Messages.{station};
 ghost use Rattle.rules.specs.Messages as rules;
 ghost use Rattle.rules.specs.Step.{says};
-ghost use Rattle.answers.specs.Effects.{renewal, effectOf};
 ghost use Rattle.answers.specs.Answered.{answerOf, Spoken, Handles, said};
-use limits::FLIGHT;
-use plan::Plan;
+use upload::Effect;
 use upload::Say;
-use upload::Turn;
 use upload::Turned;
 
 pub const REPLIED: u8 = 0;
@@ -25,18 +22,7 @@ pub struct Said {
     pub len: usize,
 }
 
-// What a call does to the state.
-pub enum Effect {
-    Nothing,
-    // The plan of its kind becomes this one.
-    Turns(Plan),
-    // The plans become these, and the flight begins anew: its plan was replaced or emptied.
-    Restarts(Plan, Plan, Plan),
-    // An item of the flight plan becomes current.
-    Chooses(u16),
-}
-
-// What is done and what was said.
+// What was done and said.
 pub struct Handled {
     pub effect: Effect,
     pub said: Said,
@@ -106,44 +92,13 @@ pub fn only(said: Said) -> Handled
     }
 }
 
-// A plan of a kind is replaced or emptied.
-pub fn renewal(plans: [Plan; 3], kind: u8, plan: Plan) -> Effect
-    ensures { λ r. ⌜ r ≡ renewal plans kind plan ⌝ }
-{
-    if kind == FLIGHT {
-        let fence = plans[1];
-        let rally = plans[2];
-        return Effect::Restarts(plan, fence, rally);
-    }
-    Effect::Turns(plan)
-}
-
-// What a turn of the plan of a kind does to the state.
-pub fn effect_of(turn: Turn, plans: [Plan; 3], kind: u8) -> Effect
-    ensures { λ r. ⌜ r ≡ effectOf turn plans kind ⌝ }
-{
-    match turn {
-        Turn::Keeps => Effect::Nothing,
-        Turn::Moves(plan) => Effect::Turns(plan),
-        Turn::Renews(plan) => renewal(plans, kind, plan),
-    }
-}
-
-// What a handler makes of the plan of a kind, and what it says to a station.
-pub fn told(
-    turned: Turned,
-    plans: [Plan; 3],
-    kind: u8,
-    system: u8,
-    component: u8,
-    reply: &mut [u8],
-) -> Handled
+// What a handler of one plan does, and what it says to a station.
+pub fn told(turned: Turned, kind: u8, system: u8, component: u8, reply: &mut [u8]) -> Handled
     requires { ⌜ replyBytesMin ≤ length (now reply) ⌝ }
-    ensures { λ r. ⌜ Handles (effectOf (turned .turn) plans kind) (answerOf (turned .say) (station system component) kind) (now (reply .entry)) (now (reply .exit)) r ⌝ }
+    ensures { λ r. ⌜ Handles (turned .effect) (answerOf (turned .say) (station system component) kind) (now (reply .entry)) (now (reply .exit)) r ⌝ }
 {
-    let turn = turned.turn;
+    let effect = turned.effect;
     let say = turned.say;
     let said = speak(say, kind, system, component, reply);
-    let effect = effect_of(turn, plans, kind);
     Handled { effect, said }
 }

@@ -1,3 +1,2 @@
--- Laws that serve the proofs of several functions.
-mod Requests
-mod Covering
+-- Laws that several proofs cite: what a message asks by its id.
+pub mod Requests

@@ -1,18 +1,21 @@
--- What a message asks by its id: which kinds it may have, and which id is left where the others are excluded. Both go down the
--- rules' chain of ids.
+-- What a message asks by its id: which kinds it may have, which id is left where the others are excluded, and which messages speak of one plan. Each goes down
+-- the rules' chain of ids.
 use Prim.Native.Nat.{ℕ}
 use mathlib.Core.Path.{_≡_, refl, sym}
+use mathlib.Core.List.{List}
 use mathlib.Core.Bool.{true, true≢false}
 use lib.Dec.{eqb}
 use borrow.Author.Tests.{eqb-true}
 use Rattle.rules.specs.Payload.{Bytes}
 use Rattle.rules.specs.Layouts.{setCurrentId, currentId, requestListId, countId, clearAllId, ackId, requestIntId, itemIntId, statustextId}
-use Rattle.rules.specs.Messages.{Message, messageOf, decode}
+use Rattle.rules.specs.Messages.{Station, Message, messageOf, decode}
 use Rattle.rule_laws.specs.Tests.{either}
 use Rattle.rules.specs.Calls.{isKnown}
 use Rattle.rules.specs.Step.{kindOk}
 use Rattle.message_table.specs.Table.{isRead}
+use Rattle.plan.specs.declared.Plan.{Plan}
 use Rattle.refusal.specs.Refusals.{requestOf}
+use Rattle.protocol.specs.Doing.{planAmong, planDone, knownDone}
 
 -- every message but CLEAR_ALL and ACK may have the kinds up to the last
 pub kind-known : (id kind : ℕ) (p : Bytes) → (id ≡ clearAllId → ⊥) → (id ≡ ackId → ⊥) → isKnown kind ≡ kindOk kind (requestOf (decode id p))
@@ -49,3 +52,21 @@ item-left id p read n41 n43 n44 n45 n47 n51 =
   where
     P : Message → Type 0
     P m = isRead m ≡ true → id ≡ itemIntId
+
+-- every message but SET_CURRENT and CLEAR_ALL speaks of the plan of its kind
+pub of-one-plan : (ps : List Plan) (current : ℕ) (s : Bytes) (from : Station) (now kind id : ℕ) (p : Bytes) → (id ≡ setCurrentId → ⊥) → (id ≡ clearAllId → ⊥)
+    → knownDone ps current s from now kind (requestOf (decode id p)) ≡ planDone (planAmong ps kind) current s from now kind (requestOf (decode id p))
+unfolding decode messageOf knownDone
+of-one-plan ps current s from now kind id p n41 n45 =
+    either P (eqb id setCurrentId) (λ e. absurd (n41 (eqb-true id setCurrentId e))) (λ e.
+    either P (eqb id currentId) (λ e. refl) (λ e.
+    either P (eqb id requestListId) (λ e. refl) (λ e.
+    either P (eqb id countId) (λ e. refl) (λ e.
+    either P (eqb id clearAllId) (λ e. absurd (n45 (eqb-true id clearAllId e))) (λ e.
+    either P (eqb id ackId) (λ e. refl) (λ e.
+    either P (eqb id requestIntId) (λ e. refl) (λ e.
+    either P (eqb id itemIntId) (λ e. refl) (λ e.
+    either P (eqb id statustextId) (λ e. refl) (λ e. refl)))))))))
+  where
+    P : Message → Type 0
+    P m = knownDone ps current s from now kind (requestOf m) ≡ planDone (planAmong ps kind) current s from now kind (requestOf m)

@@ -1,22 +1,23 @@
 -- What a message or a timer call does, over the plans of the three kinds, the current item and the store: its effect on the state, the store after it, and the
 -- answer.
-use Prim.Native.Nat.{ℕ}
+use Prim.Native.Nat.{ℕ, _≤_}
 use mathlib.Core.Path.{_≡_}
 use mathlib.Core.List.{List, [], _∷_}
 use mathlib.Core.Bool.{Bool, false, cond, _||_}
+use lib.ListN.{getD}
 use lib.Dec.{eqb}
 use Rattle.rules.specs.Limits.{flight, fence, rally, everyKind, sizeOf, accepted, unsupported, denied}
 use Rattle.rules.specs.Payload.{Bytes}
 use Rattle.rules.specs.Messages.{Station, ack}
 use Rattle.rules.specs.Calls.{Request, chooses, asksList, announces, clears, acknowledges, asksItem, brings}
-use Rattle.rules.specs.Step.{Answer, says, covered, kindOk}
+use Rattle.rules.specs.Step.{Answer, silent, says, covered, kindOk}
 use Rattle.plan.specs.declared.Plan.{Plan}
+use Rattle.plan.specs.View.{emptyPlan}
+use Rattle.upload.specs.declared.Effect.{Effect}
+use Rattle.upload.specs.declared.Effect.the-variants.{Nothing, Renews, EmptiesAll}
 use Rattle.upload.specs.declared.Turned.{Turned}
 use Rattle.upload.specs.Turns.{TurnAndStore, emptied, countTurned, ackTurned, timerTurned, itemTurned, othersUpload, stationOf}
-use Rattle.answers.specs.declared.Effect.{Effect}
-use Rattle.answers.specs.declared.Effect.the-variants.{Nothing, Restarts}
 use Rattle.answers.specs.declared.Handled.{Handled}
-use Rattle.answers.specs.Effects.{planAmong, renewal, effectOf}
 use Rattle.answers.specs.Answered.{answerOf, Handles}
 use Rattle.shown.specs.Shown.{listAnswer, requestAnswer, chooseEffect, chooseAnswer}
 
@@ -33,47 +34,60 @@ pub record DoneBy (d : Done) (s′ b b′ : Bytes) (r : Handled) : Type 0 where
   pub handles : Handles (d .effect) (d .answer) b b′ r
   pub store : s′ ≡ d .store
 
--- a turn of the plan of one kind, answered to a station
-abbrev pub turns : List Plan → Bytes → (kind : ℕ) → Station → Turned → Done
-turns plans s kind to t = does (effectOf (t .turn) plans kind) s (answerOf (t .say) to kind)
+-- a turn of one plan, answered to a station
+abbrev pub turns : Bytes → (kind : ℕ) → Station → Turned → Done
+turns s kind to t = does (t .effect) s (answerOf (t .say) to kind)
 
-abbrev pub itemTurns : List Plan → (kind : ℕ) → Station → TurnAndStore → Done
-itemTurns plans kind from t = turns plans (t .store) kind from (t .turned)
+abbrev pub itemTurns : (kind : ℕ) → Station → TurnAndStore → Done
+itemTurns kind from t = turns (t .store) kind from (t .turned)
+
+-- the plan of a kind among those of all; none, an empty one, where there is no such kind
+abbrev pub planAmong : List Plan → (kind : ℕ) → Plan
+planAmong ps kind = getD ps kind emptyPlan
+
+-- p is the plan of a kind among the three, where there is such a kind
+abbrev pub IsPlanOf : (kind : ℕ) → Plan → (flight fence rally : Plan) → Type 0
+IsPlanOf kind p a b c = kind ≤ rally → p ≡ planAmong (a ∷ b ∷ c ∷ []) kind
 
 -- ---- clears
 
 abbrev pub othersAmong : List Plan → Station → List ℕ → Bool
-othersAmong plans from [] = false
-othersAmong plans from (kind ∷ ks) = othersUpload from (planAmong plans kind .upload) || othersAmong plans from ks
+othersAmong ps from [] = false
+othersAmong ps from (kind ∷ ks) = othersUpload from (planAmong ps kind .upload) || othersAmong ps from ks
 
--- the plan of a kind is emptied, or every one for 255
 abbrev pub clearEffect : List Plan → (kind : ℕ) → Effect
-clearEffect plans kind =
-    cond (eqb kind everyKind) (Restarts (emptied (planAmong plans flight)) (emptied (planAmong plans fence)) (emptied (planAmong plans rally)))
-    (renewal plans kind (emptied (planAmong plans kind)))
+clearEffect ps kind = cond (eqb kind everyKind) EmptiesAll (Renews (emptied (planAmong ps kind)))
 
 unfoldable pub clearDone : List Plan → Bytes → Station → (kind : ℕ) → Done
-clearDone plans s from kind =
-    cond (othersAmong plans from (covered kind)) (does Nothing s (says (ack from denied kind 0)))
-    (does (clearEffect plans kind) s (says (ack from accepted kind 0)))
+clearDone ps s from kind =
+    cond (othersAmong ps from (covered kind)) (does Nothing s (says (ack from denied kind 0)))
+    (does (clearEffect ps kind) s (says (ack from accepted kind 0)))
 
--- ---- every message
+-- ---- every message of a kind that it may have
 
--- of a kind that it may have
+-- the messages that speak of the plan of a kind; the others leave it
+unfoldable pub planDone : Plan → (current : ℕ) → Bytes → Station → (now kind : ℕ) → Request → Done
+planDone p current s from now kind (chooses seq) = does Nothing s silent
+planDone p current s from now kind asksList = does Nothing s (listAnswer p from kind)
+planDone p current s from now kind (announces n) = turns s kind from (countTurned p from now n (sizeOf kind))
+planDone p current s from now kind clears = does Nothing s silent
+planDone p current s from now kind (acknowledges result) = turns s kind from (ackTurned p from result)
+planDone p current s from now kind (asksItem seq) = does Nothing s (requestAnswer p current s from kind seq)
+planDone p current s from now kind (brings item) = itemTurns kind from (itemTurned s kind (p .upload) p from now item)
+
+-- SET_CURRENT speaks of the flight plan and of all numbers, CLEAR_ALL of all plans
 unfoldable pub knownDone : List Plan → (current : ℕ) → Bytes → Station → (now kind : ℕ) → Request → Done
-knownDone plans current s from now kind (chooses seq) = does (chooseEffect plans seq) s (chooseAnswer plans seq)
-knownDone plans current s from now kind asksList = does Nothing s (listAnswer (planAmong plans kind) from kind)
-knownDone plans current s from now kind (announces n) = turns plans s kind from (countTurned (planAmong plans kind) from now n (sizeOf kind))
-knownDone plans current s from now kind clears = clearDone plans s from kind
-knownDone plans current s from now kind (acknowledges result) = turns plans s kind from (ackTurned (planAmong plans kind) from result)
-knownDone plans current s from now kind (asksItem seq) = does Nothing s (requestAnswer (planAmong plans kind) current s from kind seq)
-knownDone plans current s from now kind (brings item) =
-    itemTurns plans kind from (itemTurned s kind (planAmong plans kind .upload) (planAmong plans kind) from now item)
+knownDone ps current s from now kind (chooses seq) =
+    does (chooseEffect (planAmong ps flight) seq) s (chooseAnswer (planAmong ps flight) (planAmong ps fence) (planAmong ps rally) seq)
+knownDone ps current s from now kind asksList = planDone (planAmong ps kind) current s from now kind asksList
+knownDone ps current s from now kind (announces n) = planDone (planAmong ps kind) current s from now kind (announces n)
+knownDone ps current s from now kind clears = clearDone ps s from kind
+knownDone ps current s from now kind (acknowledges result) = planDone (planAmong ps kind) current s from now kind (acknowledges result)
+knownDone ps current s from now kind (asksItem seq) = planDone (planAmong ps kind) current s from now kind (asksItem seq)
+knownDone ps current s from now kind (brings item) = planDone (planAmong ps kind) current s from now kind (brings item)
 
 unfoldable pub messageDone : List Plan → (current : ℕ) → Bytes → Station → (now kind : ℕ) → Request → Done
-messageDone plans current s from now kind r = cond (kindOk kind r) (knownDone plans current s from now kind r) (does Nothing s (says (ack from unsupported kind 0)))
+messageDone ps current s from now kind r = cond (kindOk kind r) (knownDone ps current s from now kind r) (does Nothing s (says (ack from unsupported kind 0)))
 
--- a timer call: its reply goes to the station of the kind's upload
-unfoldable pub timerDone : List Plan → Bytes → (now kind : ℕ) → Done
-timerDone plans s now kind =
-    turns plans s kind (stationOf (planAmong plans kind .upload)) (timerTurned (planAmong plans kind .upload) (planAmong plans kind) now)
+unfoldable pub timerDone : Plan → Bytes → (now kind : ℕ) → Done
+timerDone p s now kind = turns s kind (stationOf (p .upload)) (timerTurned (p .upload) p now)

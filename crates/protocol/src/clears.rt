@@ -1,6 +1,7 @@
 // CLEAR_ALL, over the plans of the three kinds.
 ghost use mathlib.Core.Path.{_≡_};
 ghost use mathlib.Core.Bool.{true, _||_};
+ghost use mathlib.Core.List.{[], _∷_};
 ghost use Prim.Native.Nat.{_≤_};
 ghost use lib.ListN.{length};
 ghost use lib.Dec.{eqb};
@@ -9,28 +10,32 @@ ghost use Rattle.rules.specs.Payload.{Bytes};
 ghost use Rattle.rules.specs.Messages.{station};
 ghost use Rattle.rules.specs.Calls.{isKnown};
 ghost use Rattle.rules.specs.Step.{covered};
-ghost use Rattle.protocol.specs.Doing.{DoneBy, othersAmong, clearEffect, clearDone};
-use answers::Effect;
+ghost use Rattle.protocol.specs.Doing.{DoneBy, IsPlanOf, othersAmong, clearEffect, clearDone};
 use answers::Handled;
 use answers::ack;
 use answers::only;
-use answers::renewal;
 use limits::ACCEPTED;
 use limits::DENIED;
 use limits::EVERY_KIND;
 use plan::Plan;
+use upload::Effect;
 use upload::updates::emptied;
 use upload::uploads::others_upload;
 
 // Whether another station has an upload of a kind that a clear covers.
-fn others_among(plans: [Plan; 3], system: u8, component: u8, kind: u8) -> bool
-    requires { ⌜ (isKnown kind || eqb kind everyKind) ≡ true ⌝ }
-    ensures { λ r. ⌜ r ≡ othersAmong plans (station system component) (covered kind) ⌝ }
+fn others_among(
+    plan: Plan,
+    flight: Plan,
+    fence: Plan,
+    rally: Plan,
+    system: u8,
+    component: u8,
+    kind: u8,
+) -> bool
+    requires { ⌜ ((isKnown kind || eqb kind everyKind) ≡ true) × IsPlanOf kind plan flight fence rally ⌝ }
+    ensures { λ r. ⌜ r ≡ othersAmong (flight ∷ fence ∷ rally ∷ []) (station system component) (covered kind) ⌝ }
 {
     if kind == EVERY_KIND {
-        let flight = plans[0];
-        let fence = plans[1];
-        let rally = plans[2];
         let upload0 = flight.upload;
         let upload1 = fence.upload;
         let upload2 = rally.upload;
@@ -38,43 +43,38 @@ fn others_among(plans: [Plan; 3], system: u8, component: u8, kind: u8) -> bool
             | others_upload(upload1, system, component)
             | others_upload(upload2, system, component);
     }
-    let k = kind as usize;
-    let plan = plans[k];
     let upload = plan.upload;
     others_upload(upload, system, component)
 }
 
 // What a clear empties: the plan of a kind, or every one for 255.
-fn empties(plans: [Plan; 3], kind: u8) -> Effect
-    requires { ⌜ (isKnown kind || eqb kind everyKind) ≡ true ⌝ }
-    ensures { λ r. ⌜ r ≡ clearEffect plans kind ⌝ }
+fn empties(plan: Plan, kind: u8) -> Effect
+    ensures { λ r. ⌜ ((p q s : Plan) → (isKnown kind || eqb kind everyKind) ≡ true → IsPlanOf kind plan p q s → r ≡ clearEffect (p ∷ q ∷ s ∷ []) kind) ⌝ }
 {
     if kind == EVERY_KIND {
-        let flight = plans[0];
-        let fence = plans[1];
-        let rally = plans[2];
-        return Effect::Restarts(emptied(flight), emptied(fence), emptied(rally));
+        return Effect::EmptiesAll;
     }
-    let k = kind as usize;
-    let plan = plans[k];
-    renewal(plans, kind, emptied(plan))
+    Effect::Renews(emptied(plan))
 }
 
 // CLEAR_ALL of a kind, or of every kind for 255: the ACK has the kind that was sent.
 pub fn clear(
-    plans: [Plan; 3],
+    plan: Plan,
+    flight: Plan,
+    fence: Plan,
+    rally: Plan,
     kind: u8,
     system: u8,
     component: u8,
     reply: &mut [u8],
 ) -> Handled
-    requires { ⌜ ((isKnown kind || eqb kind everyKind) ≡ true) × (replyBytesMin ≤ length (now reply)) ⌝ }
-    ensures { λ r. ⌜ ((store : Bytes) → DoneBy (clearDone plans store (station system component) kind) store (now (reply .entry)) (now (reply .exit)) r) ⌝ }
+    requires { ⌜ ((isKnown kind || eqb kind everyKind) ≡ true) × IsPlanOf kind plan flight fence rally × (replyBytesMin ≤ length (now reply)) ⌝ }
+    ensures { λ r. ⌜ ((store : Bytes) → DoneBy (clearDone (flight ∷ fence ∷ rally ∷ []) store (station system component) kind) store (now (reply .entry)) (now (reply .exit)) r) ⌝ }
 {
-    if others_among(plans, system, component, kind) {
+    if others_among(plan, flight, fence, rally, system, component, kind) {
         return only(ack(DENIED, kind, 0, system, component, reply));
     }
     let said = ack(ACCEPTED, kind, 0, system, component, reply);
-    let effect = empties(plans, kind);
+    let effect = empties(plan, kind);
     Handled { effect, said }
 }

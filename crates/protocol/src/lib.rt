@@ -1,9 +1,10 @@
-// One message call that is not refused: kind first, then what its message does; and a timer call. The state stays with the public call: the plans and the current
-// item go in, and what comes out is the effect on the state and what was said.
+// One message call that is not refused: kind first, then what its message does to one plan; and a timer call. The state itself stays with the public call: what
+// comes out is the effect on it.
 mod clears;
 
 ghost use mathlib.Core.Path.{_≡_};
 ghost use mathlib.Core.Bool.{true};
+ghost use mathlib.Core.List.{[], _∷_};
 ghost use Prim.Native.Nat.{ℕ, _≤_};
 ghost use lib.ListN.{length};
 ghost use Rattle.rules.specs.Limits.{rally, storeBytes, replyBytesMin};
@@ -14,11 +15,12 @@ ghost use Rattle.rules.specs.Calls.{acknowledges};
 ghost use Rattle.rules.specs.Step.{kindOk};
 ghost use Rattle.message_table.specs.Table.{isRead};
 ghost use Rattle.ranges.specs.Ranges.{plansRanged};
+ghost use Rattle.ranges.specs.Ranged.{PlanRanges};
 ghost use Rattle.refusal.specs.Refusals.{requestOf};
-ghost use Rattle.protocol.specs.Doing.{DoneBy, knownDone, messageDone, timerDone};
+ghost use Rattle.answers.specs.Answered.{Handles};
+ghost use Rattle.protocol.specs.Doing.{DoneBy, IsPlanOf, knownDone, planDone, messageDone, timerDone};
 use answers::Handled;
 use answers::ack;
-use answers::effect_of;
 use answers::only;
 use answers::silent;
 use answers::told;
@@ -53,24 +55,21 @@ fn kind_ok(id: u32, kind: u8) -> bool
 }
 
 // ACK is never answered: no reply buffer is lent to it. One of a kind above the last does nothing.
-fn acknowledge(plans: [Plan; 3], kind: u8, result: u8, system: u8, component: u8) -> Handled
-    ensures { λ r. ⌜ ((current : ℕ) (store : Bytes) (clock : ℕ) (b : Bytes) → DoneBy (knownDone plans current store (station system component) clock kind (acknowledges result)) store b b r) ⌝ }
+fn acknowledge(plan: Plan, kind: u8, result: u8, system: u8, component: u8) -> Handled
+    ensures { λ r. ⌜ ((p q s : Plan) (current : ℕ) (store : Bytes) (clock : ℕ) (b : Bytes) → IsPlanOf kind plan p q s → DoneBy (knownDone (p ∷ q ∷ s ∷ []) current store (station system component) clock kind (acknowledges result)) store b b r) ⌝ }
 {
     if RALLY < kind {
         return only(silent());
     }
-    let k = kind as usize;
-    let plan = plans[k];
     let turned = on_ack(plan, system, component, result);
-    let turn = turned.turn;
-    let effect = effect_of(turn, plans, kind);
+    let effect = turned.effect;
     let said = silent();
     Handled { effect, said }
 }
 
-// REQUEST_LIST, COUNT, REQUEST_INT and ITEM_INT: the messages that speak of the plan of one kind, and are answered.
+// The messages that speak of the plan of a kind: REQUEST_LIST, COUNT, REQUEST_INT and ITEM_INT.
 fn turn(
-    plans: [Plan; 3],
+    plan: Plan,
     current: u16,
     store: &mut [u8],
     reply: &mut [u8],
@@ -81,18 +80,16 @@ fn turn(
     own: &[u8; OWN_BYTES],
     clock: u32,
 ) -> Handled
-    requires { ⌜ (kind ≤ rally) × (plansRanged plans ≡ true) × (storeBytes ≤ length (now store)) × (replyBytesMin ≤ length (now reply)) ⌝ }
+    requires { ⌜ (kind ≤ rally) × PlanRanges kind plan × (storeBytes ≤ length (now store)) × (replyBytesMin ≤ length (now reply)) ⌝ }
     requires { ⌜ (isRead (decode id (now own)) ≡ true) × (id ≡ setCurrentId → ⊥) × (id ≡ clearAllId → ⊥) × (id ≡ ackId → ⊥) ⌝ }
-    ensures { λ r. ⌜ DoneBy (knownDone plans current (now (store .entry)) (station system component) clock kind (requestOf (decode id (now (own .entry))))) (now (store .exit)) (now (reply .entry)) (now (reply .exit)) r ⌝ }
+    ensures { λ r. ⌜ DoneBy (planDone plan current (now (store .entry)) (station system component) clock kind (requestOf (decode id (now (own .entry))))) (now (store .exit)) (now (reply .entry)) (now (reply .exit)) r ⌝ }
 {
-    let k = kind as usize;
-    let plan = plans[k];
     match id {
         REQUEST_LIST_ID => only(shown::list(plan, kind, system, component, reply)),
         COUNT_ID => {
             let m = wire::read_count(own);
             let turned = on_count(plan, system, component, clock, m.count, size_of(kind));
-            told(turned, plans, kind, system, component, reply)
+            told(turned, kind, system, component, reply)
         }
         REQUEST_INT_ID => {
             let m = wire::read_request_int(own);
@@ -103,14 +100,17 @@ fn turn(
             let m = wire::read_item_int(own);
             let item = m.item;
             let turned = take_item(plan, store, kind, system, component, clock, item);
-            told(turned, plans, kind, system, component, reply)
+            told(turned, kind, system, component, reply)
         }
     }
 }
 
-// A message from a station.
+// A message from a station, with the plan of its kind, where there is such a kind, beside the plans of all.
 pub fn answer(
-    plans: [Plan; 3],
+    plan: Plan,
+    flight: Plan,
+    fence: Plan,
+    rally: Plan,
     current: u16,
     store: &mut [u8],
     reply: &mut [u8],
@@ -121,8 +121,8 @@ pub fn answer(
     own: &[u8; OWN_BYTES],
     clock: u32,
 ) -> Handled
-    requires { ⌜ (plansRanged plans ≡ true) × (storeBytes ≤ length (now store)) × (replyBytesMin ≤ length (now reply)) × (isRead (decode id (now own)) ≡ true) ⌝ }
-    ensures { λ r. ⌜ DoneBy (messageDone plans current (now (store .entry)) (station system component) clock kind (requestOf (decode id (now (own .entry))))) (now (store .exit)) (now (reply .entry)) (now (reply .exit)) r ⌝ }
+    requires { ⌜ IsPlanOf kind plan flight fence rally × (plansRanged flight fence rally ≡ true) × (storeBytes ≤ length (now store)) × (replyBytesMin ≤ length (now reply)) × (isRead (decode id (now own)) ≡ true) ⌝ }
+    ensures { λ r. ⌜ DoneBy (messageDone (flight ∷ fence ∷ rally ∷ []) current (now (store .entry)) (station system component) clock kind (requestOf (decode id (now (own .entry))))) (now (store .exit)) (now (reply .entry)) (now (reply .exit)) r ⌝ }
 {
     if !kind_ok(id, kind) {
         return only(ack(UNSUPPORTED, kind, 0, system, component, reply));
@@ -130,28 +130,26 @@ pub fn answer(
     match id {
         SET_CURRENT_ID => {
             let m = wire::read_set_current(own);
-            shown::set_current(plans, m.seq, reply)
+            shown::set_current(flight, fence, rally, m.seq, reply)
         }
-        CLEAR_ALL_ID => clear(plans, kind, system, component, reply),
+        CLEAR_ALL_ID => clear(plan, flight, fence, rally, kind, system, component, reply),
         ACK_ID => {
             let m = wire::read_ack(own);
-            acknowledge(plans, kind, m.result, system, component)
+            acknowledge(plan, kind, m.result, system, component)
         }
         _ => turn(
-            plans, current, store, reply, kind, system, component, id, own, clock,
+            plan, current, store, reply, kind, system, component, id, own, clock,
         ),
     }
 }
 
-// A timer call of a kind: its reply goes to the station of the kind's upload.
-pub fn expire(plans: [Plan; 3], kind: u8, clock: u32, reply: &mut [u8]) -> Handled
-    requires { ⌜ (kind ≤ rally) × (replyBytesMin ≤ length (now reply)) ⌝ }
-    ensures { λ r. ⌜ ((store : Bytes) → DoneBy (timerDone plans store clock kind) store (now (reply .entry)) (now (reply .exit)) r) ⌝ }
+// A timer call of a kind's plan: its reply goes to the upload's station.
+pub fn expire(plan: Plan, kind: u8, clock: u32, reply: &mut [u8]) -> Handled
+    requires { ⌜ replyBytesMin ≤ length (now reply) ⌝ }
+    ensures { λ r. ⌜ ((store : Bytes) → Handles (timerDone plan store clock kind .effect) (timerDone plan store clock kind .answer) (now (reply .entry)) (now (reply .exit)) r) ⌝ }
 {
-    let k = kind as usize;
-    let plan = plans[k];
     let held = plan.upload;
     let to = station_of(held);
     let turned = on_timer(plan, clock);
-    told(turned, plans, kind, to.system, to.component, reply)
+    told(turned, kind, to.system, to.component, reply)
 }

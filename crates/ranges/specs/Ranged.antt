@@ -1,6 +1,6 @@
 -- What the ranges say of the plan of one kind.
 use mathlib.Core.Path.{_≡_, refl}
-use mathlib.Core.List.{List}
+use mathlib.Core.List.{List, [], _∷_}
 use mathlib.Core.Bool.{Bool, true, false, _&&_, _||_}
 use Prim.Native.Nat.{ℕ, zero, suc, _≤_, _<_}
 use native.Mathlib.Omega.{arith}
@@ -23,44 +23,41 @@ of-plan kind p ranged =
     let parts = both (leb (p .len) (sizeOf kind)) (uploadRanged (sizeOf kind) (p .upload)) ranged in
     record { len = leb-true (p .len) (sizeOf kind) (parts .0); upload = parts .1 }
 
-pub plan-ranges : (plans : List Plan) → plansRanged plans ≡ true → (kind : ℕ) → kind ≤ rally → PlanRanges kind (getD plans kind emptyPlan)
-plan-ranges plans ranged = go
+pub plan-ranges : (p q r : Plan) → plansRanged p q r ≡ true → (kind : ℕ) → kind ≤ rally → PlanRanges kind (getD (p ∷ q ∷ r ∷ []) kind emptyPlan)
+plan-ranges p q r ranged = go
   where
     p0 : Bool
-    p0 = planRanged (sizeOf flight) (getD plans flight emptyPlan)
+    p0 = planRanged (sizeOf flight) p
 
     p1 : Bool
-    p1 = planRanged (sizeOf fence) (getD plans fence emptyPlan)
+    p1 = planRanged (sizeOf fence) q
 
     p2 : Bool
-    p2 = planRanged (sizeOf rally) (getD plans rally emptyPlan)
+    p2 = planRanged (sizeOf rally) r
 
-    go : (kind : ℕ) → kind ≤ rally → PlanRanges kind (getD plans kind emptyPlan)
-    go zero known = of-plan flight (getD plans flight emptyPlan) (both p0 p1 (both (p0 && p1) p2 ranged .0) .0)
-    go (suc zero) known = of-plan fence (getD plans fence emptyPlan) (both p0 p1 (both (p0 && p1) p2 ranged .0) .1)
-    go (suc (suc zero)) known = of-plan rally (getD plans rally emptyPlan) (both (p0 && p1) p2 ranged .1)
+    go : (kind : ℕ) → kind ≤ rally → PlanRanges kind (getD (p ∷ q ∷ r ∷ []) kind emptyPlan)
+    go zero known = of-plan flight p (both p0 p1 (both (p0 && p1) p2 ranged .0) .0)
+    go (suc zero) known = of-plan fence q (both p0 p1 (both (p0 && p1) p2 ranged .0) .1)
+    go (suc (suc zero)) known = of-plan rally r (both (p0 && p1) p2 ranged .1)
     go (suc (suc (suc kind))) known = absurd (omega arith)
 
 -- what all ranges say
-module _ (plans : List Plan) (current : ℕ) (counts : List ℕ) (ranged : allRanged plans current counts ≡ true) where
-  abbrev flightLength : ℕ
-  flightLength = getD plans flight emptyPlan .len
-
+module _ (p q r : Plan) (current : ℕ) (counts : List ℕ) (ranged : allRanged p q r current counts ≡ true) where
   abbrev currentOk : Bool
-  currentOk = ltb current flightLength || eqb current 0
+  currentOk = ltb current (p .len) || eqb current 0
 
-  plans-and-current : (plansRanged plans && currentOk) ≡ true
-  plans-and-current = both (plansRanged plans && currentOk) (countsRanged counts) ranged .0
+  plans-and-current : (plansRanged p q r && currentOk) ≡ true
+  plans-and-current = both (plansRanged p q r && currentOk) (countsRanged counts) ranged .0
 
-  pub plans-ranged : plansRanged plans ≡ true
-  plans-ranged = both (plansRanged plans) currentOk plans-and-current .0
+  pub plans-ranged : plansRanged p q r ≡ true
+  plans-ranged = both (plansRanged p q r) currentOk plans-and-current .0
 
-  pub flight-length : flightLength ≤ sizeOf flight
-  flight-length = plan-ranges plans plans-ranged flight (omega arith) .len
+  pub flight-length : p .len ≤ sizeOf flight
+  flight-length = plan-ranges p q r plans-ranged flight (omega arith) .len
 
   pub current-below : current < sizeOf flight
-  current-below = go (ltb current flightLength) refl (both (plansRanged plans) currentOk plans-and-current .1)
+  current-below = go (ltb current (p .len)) refl (both (plansRanged p q r) currentOk plans-and-current .1)
     where
-      go : (t : Bool) → ltb current flightLength ≡ t → (t || eqb current 0) ≡ true → current < sizeOf flight
-      go true e h = omega (arith, flight-length, ltb-true current flightLength e)
+      go : (t : Bool) → ltb current (p .len) ≡ t → (t || eqb current 0) ≡ true → current < sizeOf flight
+      go true e h = omega (arith, flight-length, ltb-true current (p .len) e)
       go false e h = omega (arith, eqb-true current 0 h)

@@ -3,7 +3,6 @@ use mathlib.Core.Path.{_≡_, refl}
 use mathlib.Core.List.{List}
 use mathlib.Core.Bool.{Bool, true, _&&_, _||_, and-true, and-assoc}
 use Prim.Native.Nat.{ℕ}
-use lib.ListN.{getD}
 use lib.Dec.{eqb, leb, ltb}
 use Rattle.rules.specs.Limits.{flight, fence, rally, sizeOf, maxRepeats, maxRuns}
 use Rattle.rules.specs.Payload.{Bytes}
@@ -14,7 +13,7 @@ use Rattle.plan.specs.declared.Run.{Run}
 use Rattle.plan.specs.declared.Upload.{Upload}
 use Rattle.plan.specs.declared.Upload.the-variants.{Idle, Running}
 use Rattle.places.specs.Places.{length-items}
-use Rattle.plan.specs.View.{emptyPlan, view, uploadIn}
+use Rattle.plan.specs.View.{view, planOf, uploadIn}
 
 -- "a running upload's count 1 to size, its next number below its count, its repeats 0 to 5"
 abbrev pub runRanged : (size : ℕ) → Run → Bool
@@ -33,19 +32,15 @@ unfoldable pub countsRanged : List ℕ → Bool
 countsRanged counts = every (λ (n : ℕ). leb n maxRuns) counts
 
 -- the plans of the three kinds
-abbrev pub plansRanged : List Plan → Bool
-plansRanged plans =
-    planRanged (sizeOf flight) (getD plans flight emptyPlan)
-    && planRanged (sizeOf fence) (getD plans fence emptyPlan)
-    && planRanged (sizeOf rally) (getD plans rally emptyPlan)
+abbrev pub plansRanged : (flight fence rally : Plan) → Bool
+plansRanged p q r = planRanged (sizeOf flight) p && planRanged (sizeOf fence) q && planRanged (sizeOf rally) r
 
 -- all numbers: "the current item below the flight length, or 0"
-abbrev pub allRanged : List Plan → (current : ℕ) (counts : List ℕ) → Bool
-allRanged plans current counts =
-    plansRanged plans && (ltb current (getD plans flight emptyPlan .len) || eqb current 0) && countsRanged counts
+abbrev pub allRanged : (flight fence rally : Plan) (current : ℕ) (counts : List ℕ) → Bool
+allRanged p q r current counts = plansRanged p q r && (ltb current (p .len) || eqb current 0) && countsRanged counts
 
 unfoldable pub stateRanged : State → Bool
-stateRanged st = allRanged (st .plans) (st .current) (st .counts)
+stateRanged st = allRanged (planOf st flight) (planOf st fence) (planOf st rally) (st .current) (st .counts)
 
 upload-ranged : (store : Bytes) (half : Bool) (kind : ℕ) (u : Upload) → uploadInRange kind (uploadIn store half kind u) ≡ uploadRanged (sizeOf kind) u
 unfolding uploadInRange uploadIn

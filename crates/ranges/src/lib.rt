@@ -1,6 +1,6 @@
 // The ranges of outcome 15, over the numbers of a state.
 ghost use mathlib.Core.Path.{_≡_};
-ghost use Rattle.ranges.specs.Ranges.{runRanged, uploadRanged, planRanged, plansRanged, countsRanged, allRanged};
+ghost use Rattle.ranges.specs.Ranges.{runRanged, uploadRanged, planRanged, countsRanged, allRanged};
 use limits::FENCE;
 use limits::FLIGHT;
 use limits::MAX_REPEATS;
@@ -46,21 +46,13 @@ fn counts_ranged(counts: &[u16]) -> bool
     ok
 }
 
-fn plans_ranged(plans: [Plan; 3]) -> bool
-    ensures { λ r. ⌜ r ≡ plansRanged plans ⌝ }
+// Whether every number of a state with these plans is in its range.
+pub fn ranged(flight: Plan, fence: Plan, rally: Plan, current: u16, counts: &[u16]) -> bool
+    ensures { λ r. ⌜ r ≡ allRanged flight fence rally current (now (counts .entry)) ⌝ }
 {
-    let flight = plans[0];
-    let fence = plans[1];
-    let rally = plans[2];
     plan_ranged(flight, size_of(FLIGHT))
         & plan_ranged(fence, size_of(FENCE))
         & plan_ranged(rally, size_of(RALLY))
-}
-
-// Whether every number of a state with these plans is in its range.
-pub fn ranged(plans: [Plan; 3], current: u16, counts: &[u16]) -> bool
-    ensures { λ r. ⌜ r ≡ allRanged plans current (now (counts .entry)) ⌝ }
-{
-    let flight = plans[0];
-    plans_ranged(plans) & ((current < flight.len) | (current == 0)) & counts_ranged(counts)
+        & ((current < flight.len) | (current == 0))
+        & counts_ranged(counts)
 }

@@ -3,28 +3,28 @@ use Prim.Native.Nat.{ℕ, _≤_, _<_}
 use native.Mathlib.Omega.{arith}
 use mathlib.Core.Path.{_≡_, refl, sym, ap, ap₂, _∙_}
 use mathlib.Core.List.{List, [], _∷_}
-use mathlib.Core.Bool.{Bool, true, false, not, cond, _||_, or-false}
+use mathlib.Core.Bool.{Bool, true, false, not, cond, _||_}
 use lib.ListN.{length, getD, length-set, List·getD-eq-default}
 use lib.Dec.{eqb, ltb}
 use borrow.Author.Tests.{ltb-true, leb-false}
-use Rattle.rules.specs.Limits.{flight, fence, rally, kinds, everyKind, storeBytes, accepted}
+use Rattle.rules.specs.Limits.{flight, fence, rally, kinds, everyKind, storeBytes}
 use Rattle.rules.specs.Payload.{Bytes}
-use Rattle.rules.specs.Messages.{Station, current, count, ack, itemInt, itemIn}
+use Rattle.rules.specs.Messages.{Station, current, count, itemInt, itemIn}
 use Rattle.rules.specs.Model as model
-use Rattle.rules.specs.Model.{Model, idle, every, isOthers, isOwn, shownNumber, withPlan, choose, inRange}
+use Rattle.rules.specs.Model.{Model, idle, every, isOthers, isOwn, shownNumber, choose, inRange}
 use Rattle.rules.specs.Calls.{Request, chooses, asksList, announces, clears, acknowledges, asksItem, brings, isKnown}
 use Rattle.rules.specs.Step.{Stepped, Answer, says, silent, currentField, refusalText, idleAt, covered, anyOthers, onClear, onList, onRequest, onSetCurrent, onKnown, kindOk, onMessage, onAck}
 use Rattle.rule_laws.specs.Tests.{both, either₂}
 use Rattle.rule_laws.specs.Kinds.{covered-known}
 use Rattle.plan.specs.declared.State.{State}
-use Rattle.places.specs.Places.{itemAt, itemsIn, items-at}
-use Rattle.plan.specs.View.{emptyPlan, planOf, uploadIn, view}
-use Rattle.upload.specs.declared.Say.the-variants.{Silent, Ack}
+use Rattle.places.specs.Places.{itemAt, items-at}
+use Rattle.plan.specs.View.{emptyPlan, planOf, view}
+use Rattle.upload.specs.declared.Say.the-variants.{Silent}
+use Rattle.upload.specs.declared.Effect.the-variants.{Nothing, Renews, EmptiesAll, Chooses}
 use Rattle.upload.specs.Turns.{emptied, othersUpload, ackTurned, ownUpload, keeps}
-use Rattle.answers.specs.declared.Effect.the-variants.{Nothing, Restarts, Chooses}
-use Rattle.answers.specs.Effects.{renewal, chosenState}
+use Rattle.upload.specs.Effects.{renewedState, emptiedState, chosenState, applied}
 use Rattle.shown.specs.Shown.{listAnswer, requestAnswer, chooseEffect, chooseAnswer}
-use Rattle.protocol.specs.Doing.{Done, does, othersAmong, clearEffect, clearDone, knownDone, messageDone}
+use Rattle.protocol.specs.Doing.{Done, does, othersAmong, clearEffect, clearDone, planDone, knownDone, messageDone}
 use Rattle.refine.specs.After.{after, afterTurn, afterMessage}
 use Rattle.refine.specs.Views.{plan-shown, upload-shown, length-shown}
 use Rattle.refine.specs.Turned.{Agree, others-shown, empties, count-agrees, ack-agrees}
@@ -41,33 +41,37 @@ others-agree st s from (k ∷ ks) known =
     ∙ ap (λ (b : Bool). b || anyOthers (view st s) from ks) (others-shown from s (not (p .half)) k (p .upload))
     ∙ ap (λ (b : Bool). othersUpload from (p .upload) || b) (others-agree st s from ks (parts .1))
 
+cleared-view :
+    (st : State) (s : Bytes) → length (st .plans) ≡ length kinds → (ks : List ℕ) → every isKnown ks ≡ true
+    → view (emptiedState st ks) s ≡ record { shown = model.empty ks (view st s .shown); uploads = idleAt ks (view st s .uploads) }
+unfolding model.empty renewedState
+cleared-view st s three [] known = refl
+cleared-view st s three (k ∷ ks) known =
+    let parts = both (isKnown k) (every isKnown ks) known in
+    let p = emptied (planOf st k) in
+    cleared-view (renewedState st k p) s (length-set (st .plans) k p ∙ three) ks (parts .1)
+    ∙ ap (λ (m : Model). record { shown = model.empty ks (m .shown); uploads = idleAt ks (m .uploads) })
+    (empties st s three k (parts .0) (record { system = 0; component = 0 }) Silent silent refl .model)
+
+-- the effect of a clear empties what it covers
+pub clears-covered : (st : State) (k : ℕ) → applied st k (clearEffect (st .plans) k) ≡ emptiedState st (covered k)
+clears-covered st k = go (eqb k everyKind)
+  where
+    go : (t : Bool) → applied st k (cond t EmptiesAll (Renews (emptied (planOf st k)))) ≡ emptiedState st (cond t kinds (k ∷ []))
+    go true = refl
+    go false = refl
+
 module _ (st : State) (s : Bytes) (three : length (st .plans) ≡ length kinds) where
   -- what is done agrees, put into the state
   abbrev AgreeIn : (k : ℕ) → Done → Stepped → Type 0
   AgreeIn k d m = Agree (after st k d) m
 
-  -- a clear of every kind, or of a known one
-  cleared :
-      (from : Station) (k : ℕ) → kindOk k clears ≡ true
-      → AgreeIn k (does (clearEffect (st .plans) k) s (says (ack from accepted k 0)))
-      (record { model = record { shown = model.empty (covered k) (view st s .shown); uploads = idleAt (covered k) (view st s .uploads) }; answer = says (ack from accepted k 0) })
-  unfolding kindOk view model.empty model.emptied withPlan uploadIn itemsIn
-  cleared from k ok = go (eqb k everyKind) refl
-    where
-      go : (t : Bool) → eqb k everyKind ≡ t
-          → AgreeIn k
-          (does
-          (cond t (Restarts (emptied (planOf st flight)) (emptied (planOf st fence)) (emptied (planOf st rally))) (renewal (st .plans) k (emptied (planOf st k)))) s
-          (says (ack from accepted k 0)))
-          (record { model = record { shown = model.empty (cond t kinds (k ∷ [])) (view st s .shown); uploads = idleAt (cond t kinds (k ∷ [])) (view st s .uploads) }; answer = says (ack from accepted k 0) })
-      go true e = record { model = refl; answer = refl }
-      go false e = empties st s three k (rw (e, or-false) at ok) from (Ack accepted 0) (says (ack from accepted k 0)) refl
-
   clear-agrees : (from : Station) (k : ℕ) → kindOk k clears ≡ true → AgreeIn k (clearDone (st .plans) s from k) (onClear (view st s) from k)
   unfolding clearDone onClear
   clear-agrees from k ok =
       rw (others-agree st s from (covered k) (covered-known k ok))
-      (either₂ (AgreeIn k) (othersAmong (st .plans) from (covered k)) (λ t. record { model = refl; answer = refl }) (λ t. cleared from k ok))
+      (either₂ (AgreeIn k) (othersAmong (st .plans) from (covered k)) (λ t. record { model = refl; answer = refl })
+      (λ t. record { model = ap (λ (x : State). view x s) (clears-covered st k) ∙ cleared-view st s three (covered k) (covered-known k ok); answer = refl }))
 
   -- ---- reading and choosing
 
@@ -110,7 +114,7 @@ module _ (st : State) (s : Bytes) (three : length (st .plans) ≡ length kinds) 
 
   choose-agrees :
       (k seq : ℕ)
-      → AgreeIn k (does (chooseEffect (st .plans) seq) s (chooseAnswer (st .plans) seq)) (onSetCurrent (view st s) seq)
+      → AgreeIn k (does (chooseEffect (planOf st flight) seq) s (chooseAnswer (planOf st flight) (planOf st fence) (planOf st rally) seq)) (onSetCurrent (view st s) seq)
   unfolding chooseEffect chooseAnswer onSetCurrent
   choose-agrees k seq =
       rw (number-shown flight refl, number-shown fence refl, number-shown rally refl, length-shown st s flight refl) (go (ltb seq (planOf st flight .len)))
@@ -155,7 +159,7 @@ module _ (st : State) (s : Bytes) (three : length (st .plans) ≡ length kinds) 
 
   module _ (long : storeBytes ≤ length s) (ranged : inRange (view st s) ≡ true) (from : Station) (now k : ℕ) where
     known-agrees : (r : Request) → kindOk k r ≡ true → AgreeIn k (knownDone (st .plans) (st .current) s from now k r) (onKnown (view st s) from now k r)
-    unfolding knownDone onKnown kindOk
+    unfolding knownDone planDone onKnown kindOk
     known-agrees (chooses seq) ok = choose-agrees k seq
     known-agrees asksList ok = list-agrees from k ok
     known-agrees (announces n) ok = count-agrees st s three k ok from now n

@@ -1,7 +1,7 @@
 -- From the code's step to the promise; and that every call that fits has a result that keeps it.
 use Prim.Native.Nat.{ℕ, _≤_}
 use mathlib.Core.Path.{_≡_, refl, sym, ap, ap₂, subst, _∙_}
-use mathlib.Core.List.{_++_}
+use mathlib.Core.List.{List, [], _∷_, _++_}
 use mathlib.Core.Bool.{true}
 use lib.ListN.{length, getD, take, drop, length-set}
 use lib.Seq.{take-at}
@@ -16,10 +16,11 @@ use Rattle.rule_laws.specs.ReadBack.{replies-read}
 use Rattle.rule_laws.specs.Heard.{HeardFits, heard-fits}
 use Rattle.rule_laws.specs.Refused.{Room, none, enough, room-or-refused}
 use Rattle.plan.specs.declared.State.{State}
-use Rattle.plan.specs.View.{view}
-use Rattle.answers.specs.declared.Effect.{Effect}
-use Rattle.answers.specs.declared.Effect.the-variants.{Nothing, Turns, Restarts, Chooses}
-use Rattle.answers.specs.Effects.{applied}
+use Rattle.plan.specs.View.{planOf, view}
+use Rattle.upload.specs.declared.Effect.{Effect}
+use Rattle.upload.specs.declared.Effect.the-variants.{Nothing, Turns, Renews, EmptiesAll, Chooses}
+use Rattle.upload.specs.Turns.{emptied}
+use Rattle.upload.specs.Effects.{renewedState, emptiedState, applied}
 use Rattle.protocol.specs.Doing.{messageDone, timerDone}
 use Rattle.refine.specs.After.{After, gives, afterMessage, afterTimer}
 use Rattle.refine.specs.Promise.{Result, Serves, halfOf, spare}
@@ -73,10 +74,19 @@ abbrev Three : State → Type 0
 Three st = length (st .plans) ≡ length kinds
 
 -- the plans after an effect are three
+emptied-three : (st : State) (ks : List ℕ) → Three st → Three (emptiedState st ks)
+unfolding renewedState
+emptied-three st [] three = three
+emptied-three st (k ∷ ks) three =
+    let p = emptied (planOf st k) in
+    emptied-three (renewedState st k p) ks (length-set (st .plans) k p ∙ three)
+
 applied-three : (st : State) (k : ℕ) (e : Effect) → Three st → Three (applied st k e)
+unfolding renewedState
 applied-three st k Nothing three = three
 applied-three st k (Turns p) three = length-set (st .plans) k p ∙ three
-applied-three st k (Restarts p q r) three = refl
+applied-three st k (Renews p) three = length-set (st .plans) k p ∙ three
+applied-three st k EmptiesAll three = emptied-three st kinds three
 applied-three st k (Chooses seq) three = three
 
 reached-three : (st : State) → Three st → (f : Found) → Three (reached f st)
@@ -88,7 +98,7 @@ done-three : (st : State) (s : Bytes) (h : Heard) → Three st → Three (doneBy
 unfolding doneBy
 done-three st s (refuses outcome) three = three
 done-three st s (request from now k r) three = applied-three st k (messageDone (st .plans) (st .current) s from now k r .effect) three
-done-three st s (expiry now k) three = applied-three st k (timerDone (st .plans) s now k .effect) three
+done-three st s (expiry now k) three = applied-three st k (timerDone (planOf st k) s now k .effect) three
 done-three st s commandDone three = reached-three st three (next (view st s .shown))
 
 reached-view : (st : State) (s : Bytes) (f : Found) → view (reached f st) s ≡ record { shown = reach f (view st s .shown); uploads = view st s .uploads }

@@ -5,19 +5,19 @@ use mathlib.Core.Path.{_≡_, refl, sym, ap, ap₂, subst, _∙_}
 use mathlib.Core.Logic.{_⊎_, inl, inr, ⊎-elim}
 use mathlib.Core.List.{List, [], _∷_}
 use mathlib.Core.Bool.{Bool, true, false, true≢false, not, cond, _&&_, or-false}
-use lib.ListN.{length, getD}
+use lib.ListN.{length, getD, set, length-set}
 use lib.Dec.{eqb, leb, ltb}
 use borrow.Author.Tests.{leb-true, le-leb, eq-eqb, ne-eqb, eqb-true, ltb-false, leb-false, not-false}
-use Rattle.rules.specs.Limits.{flight, fence, rally, kinds, everyKind, sizeOf, itemBytes, storeBytes, accepted, maxRepeats, expiryMs, lastNumber}
+use Rattle.rules.specs.Limits.{flight, rally, kinds, everyKind, sizeOf, itemBytes, storeBytes, accepted, maxRepeats, expiryMs, lastNumber}
 use Rattle.rules.specs.Payload.{Bytes}
 use Rattle.rules.specs.Messages.{Station, Item, itemOf, sameStation}
 use Rattle.rules.specs.Model as model
-use Rattle.rules.specs.Model.{Model, nextNumber, elapsed, wholeOk, inRange}
+use Rattle.rules.specs.Model.{Model, nextNumber, elapsed, wholeOk, every, inRange}
 use Rattle.rules.specs.Calls.{Call, Request, chooses, asksList, announces, clears, acknowledges, asksItem, brings, Heard, refuses, request, expiry, commandDone, isKnown, heard}
 use Rattle.rules.specs.NextCommand.{next, answerOf, advance}
 use Rattle.rules.specs.Step.{refused, orders, isRefused, Stepped, covered, kindOk, act, step}
-use Rattle.rule_laws.specs.Tests.{either}
-use Rattle.rule_laws.specs.Kinds.{each-kind, known-below}
+use Rattle.rule_laws.specs.Tests.{both, either}
+use Rattle.rule_laws.specs.Kinds.{covered-known, known-below}
 use Rattle.rule_laws.specs.Lists.{at-set}
 use Rattle.rule_laws.specs.Layout.{length-itemOf}
 use Rattle.rule_laws.specs.Refused.{message-answered, timer-answered}
@@ -30,13 +30,13 @@ use Rattle.places.specs.Part.{getD-put-before, getD-put-after}
 use Rattle.places.specs.Places.{itemsIn, offsetOf, offset-within}
 use Rattle.places.specs.Writes.{length-stays}
 use Rattle.plan.specs.View.{emptyPlan, planOf, view, stationIn}
+use Rattle.upload.specs.declared.Effect.{Effect}
+use Rattle.upload.specs.declared.Effect.the-variants.{Nothing, Turns, Renews, EmptiesAll, Chooses}
 use Rattle.upload.specs.declared.Turned.{Turned}
-use Rattle.upload.specs.Turns.{withUpload, ended, emptied, replaced, started, oneMore, askedAgain, othersUpload, ownUpload, countTurned, ackTurned, timerTurned, TurnAndStore, validItemTurned, itemVerdict, itemTurned, stored}
-use Rattle.answers.specs.declared.Effect.{Effect}
-use Rattle.answers.specs.declared.Effect.the-variants.{Nothing, Turns, Restarts, Chooses}
-use Rattle.answers.specs.Effects.{renewal, effectOf, applied}
+use Rattle.upload.specs.Turns.{withUpload, ended, emptied, started, oneMore, askedAgain, othersUpload, ownUpload, countTurned, ackTurned, timerTurned, TurnAndStore, validItemTurned, itemVerdict, itemTurned, stored}
+use Rattle.upload.specs.Effects.{turnedState, renewedState, emptiedState, applied}
 use Rattle.shown.specs.Shown.{chooseEffect}
-use Rattle.protocol.specs.Doing.{Done, othersAmong, clearEffect, clearDone, knownDone, messageDone, timerDone}
+use Rattle.protocol.specs.Doing.{Done, othersAmong, clearEffect, clearDone, planDone, knownDone, messageDone, timerDone}
 use Rattle.refine.specs.After.{After, gives, afterMessage, afterTimer}
 use Rattle.refine.specs.Views.{plan-shown}
 use Rattle.refine.specs.Turned.{Agree, timer-agrees}
@@ -63,80 +63,67 @@ next-moves n = go (eqb n lastNumber) refl
 stays-ok : (p q : Plan) → q .half ≡ p .half → q .number ≡ p .number → HalfOk p q
 stays-ok p q h n = h ∙ ap (λ (t : Bool). cond t (p .half) (not (p .half))) (sym (eq-eqb (q .number) (p .number) n))
 
+-- a plan that a call puts in is of a known kind, and its half is so
+abbrev pub EffectOk : (k : ℕ) → Plan → Effect → Type 0
+EffectOk k p Nothing = Unit
+EffectOk k p (Turns q) = (isKnown k ≡ true) × HalfOk p q
+EffectOk k p (Renews q) = (isKnown k ≡ true) × HalfOk p q
+EffectOk k p EmptiesAll = Unit
+EffectOk k p (Chooses seq) = Unit
+
 same-ok : (p : Plan) → HalfOk p p
 same-ok p = stays-ok p p refl refl
 
--- a plan that a call puts in is of a known kind, and its half is so
-module _ (st : State) (k : ℕ) where
-  abbrev pub EffectOk : Effect → Type 0
-  EffectOk Nothing = Unit
-  EffectOk (Turns q) = (isKnown k ≡ true) × HalfOk (planOf st k) q
-  EffectOk (Restarts p q r) = HalfOk (planOf st flight) p × HalfOk (planOf st fence) q × HalfOk (planOf st rally) r
-  EffectOk (Chooses seq) = Unit
-
+-- each turn of a known kind's plan
+module _ (k : ℕ) (known : isKnown k ≡ true) (p : Plan) where
   abbrev TurnOk : Turned → Type 0
-  TurnOk t = EffectOk (effectOf (t .turn) (st .plans) k)
+  TurnOk t = EffectOk k p (t .effect)
+
+  ended-ok : (isKnown k ≡ true) × HalfOk p (ended p)
+  ended-ok = (known, stays-ok p (ended p) refl refl)
+
+  emptied-ok : (isKnown k ≡ true) × HalfOk p (emptied p)
+  emptied-ok = (known, stays-ok p (emptied p) refl refl)
+
+  runs-ok : (r : Run) → (isKnown k ≡ true) × HalfOk p (withUpload p (Running r))
+  runs-ok r = (known, stays-ok p (withUpload p (Running r)) refl refl)
+
+  count-ok : (from : Station) (now n size : ℕ) → TurnOk (countTurned p from now n size)
+  unfolding countTurned
+  count-ok from now n size =
+      either TurnOk (othersUpload from (p .upload)) (λ t. tt)
+      (λ t. either TurnOk (ltb size n) (λ t. ended-ok) (λ t. either TurnOk (eqb n 0) (λ t. emptied-ok) (λ t. runs-ok (started from now n))))
+
+  ack-ok : (from : Station) (result : ℕ) → TurnOk (ackTurned p from result)
+  unfolding ackTurned
+  ack-ok from result = either TurnOk (ownUpload from (p .upload) && not (eqb result accepted)) (λ t. ended-ok) (λ t. tt)
+
+  timer-ok : (u : Upload) (now : ℕ) → TurnOk (timerTurned u p now)
+  unfolding timerTurned
+  timer-ok Idle now = tt
+  timer-ok (Running r) now =
+      either TurnOk (ltb (elapsed now (r .started)) expiryMs) (λ t. tt)
+      (λ t. either TurnOk (ltb (r .repeats) maxRepeats) (λ t. runs-ok (askedAgain r now)) (λ t. ended-ok))
+
+  replaced-ok : (n : ℕ) → (isKnown k ≡ true) × HalfOk p (record { len = n; half = not (p .half); number = nextNumber (p .number); upload = Idle })
+  replaced-ok n = (known, ap (λ (t : Bool). cond t (p .half) (not (p .half))) (sym (next-moves (p .number))))
 
   abbrev StoredTurnOk : TurnAndStore → Type 0
   StoredTurnOk t = TurnOk (t .turned)
 
-  -- each turn of a known kind's plan
-  module _ (known : isKnown k ≡ true) where
-    abbrev p : Plan
-    p = planOf st k
+  valid-ok : (s : Bytes) (r : Run) (now : ℕ) → StoredTurnOk (validItemTurned s k p r now)
+  unfolding validItemTurned
+  valid-ok s r now =
+      either StoredTurnOk (not (eqb (r .next + 1) (r .count))) (λ t. runs-ok (oneMore r now))
+      (λ t. either StoredTurnOk (wholeOk k _) (λ t. replaced-ok (r .count)) (λ t. ended-ok))
 
-    moves-ok : (q : Plan) → q .half ≡ p .half → q .number ≡ p .number → (isKnown k ≡ true) × HalfOk p q
-    moves-ok q h n = (known, stays-ok p q h n)
-
-    renews-ok : (q : Plan) → HalfOk p q → EffectOk (renewal (st .plans) k q)
-    renews-ok q ok = go (eqb k flight) refl
-      where
-        go : (t : Bool) → eqb k flight ≡ t → EffectOk (cond t (Restarts q (planOf st fence) (planOf st rally)) (Turns q))
-        go true e = (subst (λ (j : ℕ). HalfOk (planOf st j) q) (eqb-true k flight e) ok, same-ok (planOf st fence), same-ok (planOf st rally))
-        go false e = (known, ok)
-
-    ended-ok : (isKnown k ≡ true) × HalfOk p (ended p)
-    ended-ok = moves-ok (ended p) refl refl
-
-    runs-ok : (r : Run) → (isKnown k ≡ true) × HalfOk p (withUpload p (Running r))
-    runs-ok r = moves-ok (withUpload p (Running r)) refl refl
-
-    emptied-ok : EffectOk (renewal (st .plans) k (emptied p))
-    emptied-ok = renews-ok (emptied p) (stays-ok p (emptied p) refl refl)
-
-    count-ok : (from : Station) (now n size : ℕ) → TurnOk (countTurned p from now n size)
-    unfolding countTurned
-    count-ok from now n size =
-        either TurnOk (othersUpload from (p .upload)) (λ t. tt)
-        (λ t. either TurnOk (ltb size n) (λ t. ended-ok) (λ t. either TurnOk (eqb n 0) (λ t. emptied-ok) (λ t. runs-ok (started from now n))))
-
-    ack-ok : (from : Station) (result : ℕ) → TurnOk (ackTurned p from result)
-    unfolding ackTurned
-    ack-ok from result = either TurnOk (ownUpload from (p .upload) && not (eqb result accepted)) (λ t. ended-ok) (λ t. tt)
-
-    timer-ok : (u : Upload) (now : ℕ) → TurnOk (timerTurned u p now)
-    unfolding timerTurned
-    timer-ok Idle now = tt
-    timer-ok (Running r) now =
-        either TurnOk (ltb (elapsed now (r .started)) expiryMs) (λ t. tt)
-        (λ t. either TurnOk (ltb (r .repeats) maxRepeats) (λ t. runs-ok (askedAgain r now)) (λ t. ended-ok))
-
-    replaced-ok : (n : ℕ) → EffectOk (renewal (st .plans) k (replaced p n))
-    replaced-ok n = renews-ok (replaced p n) (ap (λ (t : Bool). cond t (p .half) (not (p .half))) (sym (next-moves (p .number))))
-
-    valid-ok : (s : Bytes) (r : Run) (now : ℕ) → StoredTurnOk (validItemTurned s k p r now)
-    unfolding validItemTurned
-    valid-ok s r now =
-        either StoredTurnOk (not (eqb (r .next + 1) (r .count))) (λ t. runs-ok (oneMore r now))
-        (λ t. either StoredTurnOk (wholeOk k _) (λ t. replaced-ok (r .count)) (λ t. ended-ok))
-
-    item-ok : (s : Bytes) (u : Upload) (from : Station) (now : ℕ) (item : Item) → StoredTurnOk (itemTurned s k u p from now item)
-    unfolding itemTurned
-    item-ok s Idle from now item = tt
-    item-ok s (Running r) from now item =
-        either StoredTurnOk (not (sameStation from (stationIn r))) (λ t. tt)
-        (λ t. either StoredTurnOk (not (eqb (item .seq) (r .next))) (λ t. tt)
-        (λ t. either StoredTurnOk (not (eqb (itemVerdict s k p r item) accepted)) (λ t. ended-ok) (λ t. valid-ok (stored s k p r item) r now)))
+  item-ok : (s : Bytes) (u : Upload) (from : Station) (now : ℕ) (item : Item) → StoredTurnOk (itemTurned s k u p from now item)
+  unfolding itemTurned
+  item-ok s Idle from now item = tt
+  item-ok s (Running r) from now item =
+      either StoredTurnOk (not (sameStation from (stationIn r))) (λ t. tt)
+      (λ t. either StoredTurnOk (not (eqb (item .seq) (r .next))) (λ t. tt)
+      (λ t. either StoredTurnOk (not (eqb (itemVerdict s k p r item) accepted)) (λ t. ended-ok) (λ t. valid-ok (stored s k p r item) r now)))
 
 -- ---- halves of the whole state
 
@@ -146,14 +133,44 @@ HalvesOk st st′ = (j : ℕ) → isKnown j ≡ true → HalfOk (planOf st j) (p
 halves-same : (st : State) → HalvesOk st st
 halves-same st j known = same-ok (planOf st j)
 
+-- the plans after one of them became another
+put-plan : (st : State) → length (st .plans) ≡ length kinds → (k j : ℕ) (p : Plan) → isKnown k ≡ true → getD (set (st .plans) k p) j emptyPlan ≡ cond (eqb k j) p (planOf st j)
+put-plan st three k j p known = at-set (st .plans) k j p emptyPlan (rw three (known-below k known))
+
+-- a clear keeps every half and number
+record Still (st st′ : State) : Type 0 where
+  half : (j : ℕ) → planOf st′ j .half ≡ planOf st j .half
+  number : (j : ℕ) → planOf st′ j .number ≡ planOf st j .number
+
+cleared-still : (st : State) → length (st .plans) ≡ length kinds → (ks : List ℕ) → every isKnown ks ≡ true → Still st (emptiedState st ks)
+unfolding renewedState
+cleared-still st three [] known = record { half = λ j. refl; number = λ j. refl }
+cleared-still st three (k ∷ ks) known =
+    let parts = both (isKnown k) (every isKnown ks) known in
+    let p = emptied (planOf st k) in
+    let rest = cleared-still (renewedState st k p) (length-set (st .plans) k p ∙ three) ks (parts .1) in
+    let at : (j : ℕ) → planOf (renewedState st k p) j ≡ cond (eqb k j) p (planOf st j) = λ j. put-plan st three k j p (parts .0) in
+    record {
+      half = λ j. rest .half j ∙ ap (λ (p : Plan). p .half) (at j) ∙ either (λ (p : Plan). p .half ≡ planOf st j .half) (eqb k j) (λ e. ap (λ (i : ℕ). planOf st i .half) (eqb-true k j e)) (λ e. refl);
+      number = λ j. rest .number j ∙ ap (λ (p : Plan). p .number) (at j) ∙ either (λ (p : Plan). p .number ≡ planOf st j .number) (eqb k j) (λ e. ap (λ (i : ℕ). planOf st i .number) (eqb-true k j e)) (λ e. refl);
+    }
+
+still-halves : (st st′ : State) → Still st st′ → HalvesOk st st′
+still-halves st st′ h j known = stays-ok (planOf st j) (planOf st′ j) (h .half j) (h .number j)
+
 -- the halves after an effect
-effect-halves : (st : State) → length (st .plans) ≡ length kinds → (k : ℕ) (e : Effect) → EffectOk st k e → HalvesOk st (applied st k e)
-effect-halves st three k Nothing ok = halves-same st
-effect-halves st three k (Turns p) ok =
-    λ j known. rw (at-set (st .plans) k j p emptyPlan (rw three (known-below k (ok .0))))
+put-halves :
+    (st st′ : State) → length (st .plans) ≡ length kinds → (k : ℕ) (p : Plan) → st′ .plans ≡ set (st .plans) k p → (isKnown k ≡ true) × HalfOk (planOf st k) p → HalvesOk st st′
+put-halves st st′ three k p plans ok j known =
+    subst (HalfOk (planOf st j)) (sym (ap (λ (l : List Plan). getD l j emptyPlan) plans ∙ put-plan st three k j p (ok .0)))
     (either (HalfOk (planOf st j)) (eqb k j) (λ e. subst (λ (i : ℕ). HalfOk (planOf st i) p) (eqb-true k j e) (ok .1)) (λ e. same-ok (planOf st j)))
-effect-halves st three k (Restarts p q r) ok =
-    each-kind (λ (j : ℕ). HalfOk (planOf st j) (getD (p ∷ q ∷ r ∷ []) j emptyPlan)) (ok .0) (ok .1) (ok .2)
+
+effect-halves : (st : State) → length (st .plans) ≡ length kinds → (k : ℕ) (e : Effect) → EffectOk k (planOf st k) e → HalvesOk st (applied st k e)
+unfolding renewedState
+effect-halves st three k Nothing ok = halves-same st
+effect-halves st three k (Turns p) ok = put-halves st (turnedState st k p) three k p refl ok
+effect-halves st three k (Renews p) ok = put-halves st (renewedState st k p) three k p refl ok
+effect-halves st three k EmptiesAll ok = still-halves st (emptiedState st kinds) (cleared-still st three kinds refl)
 effect-halves st three k (Chooses seq) ok = halves-same st
 
 -- ---- the store beside the spare bytes
@@ -223,37 +240,32 @@ module _ (st : State) (s : Bytes) (long : storeBytes ≤ length s) (ranged : inR
 
 module _ (st : State) (s : Bytes) (three : length (st .plans) ≡ length kinds) (long : storeBytes ≤ length s) (ranged : inRange (view st s) ≡ true) (from : Station) (now k : ℕ) where
   abbrev DoneOk : Done → Type 0
-  DoneOk d = EffectOk st k (d .effect)
+  DoneOk d = EffectOk k (planOf st k) (d .effect)
 
-  ack-effect : (result : ℕ) → TurnOk st k (ackTurned (planOf st k) from result)
+  ack-effect : (result : ℕ) → EffectOk k (planOf st k) (ackTurned (planOf st k) from result .effect)
   ack-effect result = go (isKnown k) refl
     where
-      go : (t : Bool) → isKnown k ≡ t → TurnOk st k (ackTurned (planOf st k) from result)
-      go true known = ack-ok st k known from result
-      go false e = subst (TurnOk st k) (sym (unknown-turn st s three from k result e)) tt
+      go : (t : Bool) → isKnown k ≡ t → EffectOk k (planOf st k) (ackTurned (planOf st k) from result .effect)
+      go true known = ack-ok k known (planOf st k) from result
+      go false e = subst (λ (t : Turned). EffectOk k (planOf st k) (t .effect)) (sym (unknown-turn st s three from k result e)) tt
 
-  clear-effect : kindOk k clears ≡ true → EffectOk st k (clearEffect (st .plans) k)
+  clear-effect : kindOk k clears ≡ true → EffectOk k (planOf st k) (clearEffect (st .plans) k)
   unfolding kindOk
   clear-effect ok = go (eqb k everyKind) refl
     where
-      empties : (j : ℕ) → HalfOk (planOf st j) (emptied (planOf st j))
-      empties j = stays-ok (planOf st j) (emptied (planOf st j)) refl refl
-
-      go : (t : Bool) → eqb k everyKind ≡ t
-          → EffectOk st k
-          (cond t (Restarts (emptied (planOf st flight)) (emptied (planOf st fence)) (emptied (planOf st rally))) (renewal (st .plans) k (emptied (planOf st k))))
-      go true e = (empties flight, empties fence, empties rally)
-      go false e = emptied-ok st k (rw (e, or-false) at ok)
+      go : (t : Bool) → eqb k everyKind ≡ t → EffectOk k (planOf st k) (cond t EmptiesAll (Renews (emptied (planOf st k))))
+      go true e = tt
+      go false e = emptied-ok k (rw (e, or-false) at ok) (planOf st k)
 
   known-effect : (r : Request) → kindOk k r ≡ true → DoneOk (knownDone (st .plans) (st .current) s from now k r)
-  unfolding knownDone kindOk chooseEffect clearDone
-  known-effect (chooses seq) ok = either (EffectOk st k) (ltb seq (planOf st flight .len)) (λ t. tt) (λ t. tt)
+  unfolding knownDone planDone kindOk chooseEffect clearDone
+  known-effect (chooses seq) ok = either (EffectOk k (planOf st k)) (ltb seq (planOf st flight .len)) (λ t. tt) (λ t. tt)
   known-effect asksList ok = tt
-  known-effect (announces n) ok = count-ok st k ok from now n (sizeOf k)
+  known-effect (announces n) ok = count-ok k ok (planOf st k) from now n (sizeOf k)
   known-effect clears ok = either DoneOk (othersAmong (st .plans) from (covered k)) (λ t. tt) (λ t. clear-effect ok)
   known-effect (acknowledges result) ok = ack-effect result
   known-effect (asksItem seq) ok = tt
-  known-effect (brings item) ok = item-ok st k ok s (planOf st k .upload) from now item
+  known-effect (brings item) ok = item-ok k ok (planOf st k) s (planOf st k .upload) from now item
 
   pub message-effect : (r : Request) → DoneOk (messageDone (st .plans) (st .current) s from now k r)
   unfolding messageDone
@@ -266,7 +278,7 @@ module _ (st : State) (s : Bytes) (three : length (st .plans) ≡ length kinds) 
   Left r d = Beside s (spareAt st (request from now k r)) (d .store)
 
   known-beside : (r : Request) → kindOk k r ≡ true → Left r (knownDone (st .plans) (st .current) s from now k r)
-  unfolding knownDone kindOk clearDone spareAt
+  unfolding knownDone planDone kindOk clearDone spareAt
   known-beside (chooses seq) ok = beside-same s (λ i. false)
   known-beside asksList ok = beside-same s (λ i. false)
   known-beside (announces n) ok = beside-same s (λ i. false)
@@ -350,7 +362,7 @@ module _ (c : Call) (st : State) (s : Bytes) (three : length (st .plans) ≡ len
   unfolding act timerDone spareAt
   timer-steps now k known e =
       heard-steps c st s (expiry now k) (afterTimer st s now k) ranged e (timer-agrees st s three k known now)
-      (effect-halves st three k (timerDone (st .plans) s now k .effect) (timer-ok st k known (planOf st k .upload) now))
+      (effect-halves st three k (timerTurned (planOf st k .upload) (planOf st k) now .effect) (timer-ok k known (planOf st k) (planOf st k .upload) now))
       (timer-answered (view st s) (model.uploadOf (view st s) k) now k) (beside-same s (λ i. false))
 
   -- a "command done" call that is not refused, by the next command's own promise

@@ -1,8 +1,7 @@
 -- What the view shows of one kind, and how it changes with one plan.
 use Prim.Native.Nat.{ℕ}
 use mathlib.Core.Path.{_≡_, refl, ap, _∙_}
-use mathlib.Core.List.{List, [], _∷_, map}
-use native.Mathlib.Omega.{arith}
+use mathlib.Core.List.{List, map}
 use mathlib.Core.Bool.{true, false, not, cond}
 use lib.ListN.{length, getD, set}
 use lib.Dec.{eqb}
@@ -19,7 +18,7 @@ use Rattle.plan.specs.declared.Upload.{Upload}
 use Rattle.places.specs.Places.{length-items}
 use Rattle.plan.specs.View.{emptyPlan, planOf, planIn, uploadIn, view}
 use Rattle.upload.specs.Turns.{withUpload}
-use Rattle.answers.specs.Effects.{renewal, turnedState, restartedState, applied}
+use Rattle.upload.specs.Effects.{turnedState, renewedState}
 
 module _ (st : State) (s : Bytes) where
   -- the plan and the upload of a kind, as shown
@@ -33,14 +32,6 @@ module _ (st : State) (s : Bytes) where
 
   pub length-shown : (k : ℕ) → isKnown k ≡ true → model.lengthOf (view st s .shown) k ≡ planOf st k .len
   length-shown k known = ap (λ (p : model.Plan). length (p .items)) (plan-shown k known) ∙ length-items s (planOf st k .half) k (planOf st k .len)
-
--- three plans, the first of them another
-first-set : (l : List Plan) (p : Plan) → length l ≡ length kinds → _≡_ {A = List Plan} (p ∷ getD l fence emptyPlan ∷ getD l rally emptyPlan ∷ []) (set l flight p)
-first-set (a ∷ b ∷ c ∷ []) p three = refl
-first-set [] p three = absurd (omega arith)
-first-set (a ∷ []) p three = absurd (omega arith)
-first-set (a ∷ b ∷ []) p three = absurd (omega arith)
-first-set (a ∷ b ∷ c ∷ d ∷ l) p three = absurd (omega arith)
 
 module _ (st : State) (s : Bytes) (three : length (st .plans) ≡ length kinds) where
   at : (k j : ℕ) (p : Plan) → isKnown k ≡ true → getD (set (st .plans) k p) j emptyPlan ≡ cond (eqb k j) p (planOf st j)
@@ -74,35 +65,16 @@ module _ (st : State) (s : Bytes) (three : length (st .plans) ≡ length kinds) 
       (record { shown = view st s .shown; uploads = set (view st s .uploads) k (uploadIn s (not (planOf st k .half)) k u) }))
       refl refl refl k known
 
-  -- the state with the plan of one kind replaced or emptied: the flight plan's progress begins anew
-  abbrev renewedState : (k : ℕ) → Plan → State
-  renewedState k p =
-      record {
-        plans = set (st .plans) k p;
-        current = cond (eqb k flight) 0 (st .current);
-        begun = cond (eqb k flight) false (st .begun);
-        counts = cond (eqb k flight) model.noCounts (st .counts);
-      }
-
-  renewed-is : (k : ℕ) (p : Plan) → isKnown k ≡ true → applied st k (renewal (st .plans) k p) ≡ renewedState k p
-  renewed-is k p known =
-      each-kind (λ (j : ℕ). applied st j (renewal (st .plans) j p) ≡ renewedState j p) (ap restartedState (first-set (st .plans) p three)) refl refl k known
-
   -- the plan of one kind is replaced or emptied
   pub view-renewed :
       (k : ℕ) (p : Plan) → isKnown k ≡ true
-      → view (applied st k (renewal (st .plans) k p)) s
+      → view (renewedState st k p) s
       ≡ record { shown = withPlan k (planIn s k p) (view st s .shown); uploads = set (view st s .uploads) k (uploadIn s (not (p .half)) k (p .upload)) }
-  unfolding view withPlan
-  view-renewed k p known = ap (λ (x : State). view x s) (renewed-is k p known) ∙ shows
-    where
-      shows :
-          view (renewedState k p) s
-          ≡ record { shown = withPlan k (planIn s k p) (view st s .shown); uploads = set (view st s .uploads) k (uploadIn s (not (p .half)) k (p .upload)) }
-      shows =
-          rw (at k flight p known, at k fence p known, at k rally p known)
-          (each-kind
-          (λ (k : ℕ). _≡_ {A = Model}
-          (record { shown = record { plans = shownWith k p; current = cond (eqb k flight) 0 (st .current); begun = cond (eqb k flight) false (st .begun); counts = cond (eqb k flight) model.noCounts (st .counts) }; uploads = uploadsWith k p })
-          (record { shown = withPlan k (planIn s k p) (view st s .shown); uploads = set (view st s .uploads) k (uploadIn s (not (p .half)) k (p .upload)) }))
-          refl refl refl k known)
+  unfolding view withPlan renewedState
+  view-renewed k p known =
+      rw (at k flight p known, at k fence p known, at k rally p known)
+      (each-kind
+      (λ (k : ℕ). _≡_ {A = Model}
+      (record { shown = record { plans = shownWith k p; current = cond (eqb k flight) 0 (st .current); begun = cond (eqb k flight) false (st .begun); counts = cond (eqb k flight) model.noCounts (st .counts) }; uploads = uploadsWith k p })
+      (record { shown = withPlan k (planIn s k p) (view st s .shown); uploads = set (view st s .uploads) k (uploadIn s (not (p .half)) k (p .upload)) }))
+      refl refl refl k known)

@@ -1,13 +1,18 @@
 // The drone's mission service: a fresh start, a message, a timer call and "command done". These are its only public calls; none asks anything of its
 // caller, and no function below them takes or gives the state. What each promises is `Serves` of specs/Calls.antt, over the rules' own step.
+ghost use mathlib.Core.Path.{_≡_};
+ghost use Prim.Native.Nat.{_≤_, _<_};
 ghost use lib.ListN.{length};
+ghost use Rattle.rules.specs.Limits as limits;
+ghost use Rattle.rules.specs.Limits.{kinds};
 ghost use mathlib.Core.List.{[]};
 ghost use Rattle.rules.specs.Messages.{station};
 ghost use Rattle.rules.specs.Calls as calls;
 ghost use Rattle.service.specs.Calls.{Serves, servedResult, advanceResult};
-use answers::Effect;
 use answers::NO_REPLY;
 use command::Command;
+use limits::FLIGHT;
+use limits::RALLY;
 use message_table::receive;
 use plan::State;
 use protocol::answer;
@@ -16,6 +21,8 @@ use ranges::ranged;
 use refusal::done_refusal;
 use refusal::message_refusal;
 use refusal::timer_refusal;
+use upload::Effect;
+use upload::updates::emptied;
 
 // A fresh start: every plan empty, item 0 the current one and not begun.
 pub use plan::fresh;
@@ -35,6 +42,16 @@ pub struct Advanced {
     pub command: Command,
 }
 
+// The place of a kind's plan among the plans; any other kind has some place.
+fn place_of(kind: u8) -> usize
+    ensures { λ r. ⌜ (r < length kinds) × (kind ≤ limits.rally → r ≡ kind) ⌝ }
+{
+    if kind <= RALLY {
+        return kind as usize;
+    }
+    0
+}
+
 // A message call. Wrong answers that this rules out: refusing everything, and a reply that goes to another station than the sender.
 pub fn message(
     mut state: State,
@@ -50,8 +67,10 @@ pub fn message(
 ) -> Served
     ensures { λ r. ⌜ Serves (calls.message (station «own_system» «own_component») (station system component) id (now (payload .entry)) clock (length (now (store .entry))) (length (now (reply .entry)))) state (now (store .entry)) (now (store .exit)) (now (reply .entry)) (now (reply .exit)) (servedResult r) ⌝ }
 {
-    let plans = state.plans;
-    let in_range = ranged(plans, state.current, &state.counts);
+    let flight = state.plans[0];
+    let fence = state.plans[1];
+    let rally = state.plans[2];
+    let in_range = ranged(flight, fence, rally, state.current, &state.counts);
     let got = receive(id, payload);
     let head = got.head;
     let refused = message_refusal(
@@ -73,8 +92,13 @@ pub fn message(
         };
     }
     let kind = head.kind;
+    let k = place_of(kind);
+    let plan = state.plans[k];
     let done = answer(
-        plans,
+        plan,
+        flight,
+        fence,
+        rally,
         state.current,
         store,
         reply,
@@ -90,10 +114,18 @@ pub fn message(
     match effect {
         Effect::Nothing => {}
         Effect::Turns(plan) => {
-            state.plans[kind as usize] = plan;
+            state.plans[k] = plan;
         }
-        Effect::Restarts(flight, fence, rally) => {
-            let after = [flight, fence, rally];
+        Effect::Renews(plan) => {
+            state.plans[k] = plan;
+            if kind == FLIGHT {
+                let after = state.plans;
+                state = fresh();
+                state.plans = after;
+            }
+        }
+        Effect::EmptiesAll => {
+            let after = [emptied(flight), emptied(fence), emptied(rally)];
             state = fresh();
             state.plans = after;
         }
@@ -114,8 +146,10 @@ pub fn message(
 pub fn timer(mut state: State, store: &[u8], reply: &mut [u8], kind: u8, clock: u32) -> Served
     ensures { λ r. ⌜ Serves (calls.timer kind clock (length (now (store .entry))) (length (now (reply .entry)))) state (now (store .entry)) (now (store .entry)) (now (reply .entry)) (now (reply .exit)) (servedResult r) ⌝ }
 {
-    let plans = state.plans;
-    let in_range = ranged(plans, state.current, &state.counts);
+    let flight = state.plans[0];
+    let fence = state.plans[1];
+    let rally = state.plans[2];
+    let in_range = ranged(flight, fence, rally, state.current, &state.counts);
     let refused = timer_refusal(in_range, store.len(), reply.len(), kind);
     if refused != 0 {
         return Served {
@@ -125,11 +159,13 @@ pub fn timer(mut state: State, store: &[u8], reply: &mut [u8], kind: u8, clock: 
             len: 0,
         };
     }
-    let done = expire(plans, kind, clock, reply);
+    let k = kind as usize;
+    let plan = state.plans[k];
+    let done = expire(plan, kind, clock, reply);
     let said = done.said;
     let effect = done.effect;
     if let Effect::Turns(plan) = effect {
-        state.plans[kind as usize] = plan;
+        state.plans[k] = plan;
     }
     Served {
         state,
@@ -143,8 +179,10 @@ pub fn timer(mut state: State, store: &[u8], reply: &mut [u8], kind: u8, clock: 
 pub fn advance(mut state: State, store: &[u8]) -> Advanced
     ensures { λ r. ⌜ Serves (calls.done (length (now (store .entry)))) state (now (store .entry)) (now (store .entry)) [] [] (advanceResult r) ⌝ }
 {
-    let plans = state.plans;
-    let in_range = ranged(plans, state.current, &state.counts);
+    let flight = state.plans[0];
+    let fence = state.plans[1];
+    let rally = state.plans[2];
+    let in_range = ranged(flight, fence, rally, state.current, &state.counts);
     let refused = done_refusal(in_range, store.len());
     if refused != 0 {
         return Advanced {
@@ -153,7 +191,6 @@ pub fn advance(mut state: State, store: &[u8]) -> Advanced
             command: Command::Stuck,
         };
     }
-    let flight = plans[0];
     let counts = state.counts;
     let found = next_command::next(store, flight, state.current, state.begun, counts);
     if found.stands {

@@ -7,7 +7,6 @@ ghost use Rattle.rules.specs.Messages.{station};
 ghost use Rattle.rules.specs.Step.{currentField};
 ghost use Rattle.answers.specs.Answered.{Spoken, Handles};
 ghost use Rattle.shown.specs.Shown.{listAnswer, requestAnswer, chooseEffect, chooseAnswer};
-use answers::Effect;
 use answers::Handled;
 use answers::REPLIED;
 use answers::Said;
@@ -17,6 +16,7 @@ use limits::FLIGHT;
 use limits::INVALID_SEQUENCE;
 use plan::Plan;
 use plan::number_shown;
+use upload::Effect;
 
 // REQUEST_LIST: the length of the plan and its number.
 pub fn list(plan: Plan, kind: u8, system: u8, component: u8, reply: &mut [u8]) -> Said
@@ -81,13 +81,10 @@ pub fn request(
 }
 
 // SET_CURRENT: an item of the flight plan becomes current, and CURRENT is written; of an item that is not there a text says so.
-pub fn set_current(plans: [Plan; 3], seq: u16, reply: &mut [u8]) -> Handled
+pub fn set_current(flight: Plan, fence: Plan, rally: Plan, seq: u16, reply: &mut [u8]) -> Handled
     requires { ⌜ replyBytesMin ≤ length (now reply) ⌝ }
-    ensures { λ r. ⌜ Handles (chooseEffect plans seq) (chooseAnswer plans seq) (now (reply .entry)) (now (reply .exit)) r ⌝ }
+    ensures { λ r. ⌜ Handles (chooseEffect flight seq) (chooseAnswer flight fence rally seq) (now (reply .entry)) (now (reply .exit)) r ⌝ }
 {
-    let flight = plans[0];
-    let fence = plans[1];
-    let rally = plans[2];
     if seq < flight.len {
         let message = wire::Current {
             seq,

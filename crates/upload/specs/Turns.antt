@@ -16,7 +16,7 @@ use Rattle.places.specs.Writes.{putAt}
 use Rattle.plan.specs.View.{stationIn}
 use Rattle.upload.specs.declared.Say.{Say}
 use Rattle.upload.specs.declared.Say.the-variants.{Silent, Ack, Ask}
-use Rattle.upload.specs.declared.Turn.the-variants.{Keeps, Moves, Renews}
+use Rattle.upload.specs.declared.Effect.the-variants.{Nothing, Turns, Renews}
 use Rattle.upload.specs.declared.Turned.{Turned}
 
 -- ---- one definition for each update of a plan
@@ -61,13 +61,13 @@ stationOf (Running r) = stationIn r
 -- ---- the handlers
 
 abbrev pub keeps : Say → Turned
-keeps say = record { turn = Keeps; say = say }
+keeps say = record { effect = Nothing; say = say }
 
 abbrev pub moves : Plan → Say → Turned
-moves p say = record { turn = Moves p; say = say }
+moves p say = record { effect = Turns p; say = say }
 
 abbrev pub renews : Plan → Say → Turned
-renews p say = record { turn = Renews p; say = say }
+renews p say = record { effect = Renews p; say = say }
 
 unfoldable pub countTurned : Plan → Station → (now n size : ℕ) → Turned
 countTurned p from now n size =

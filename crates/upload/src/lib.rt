@@ -1,4 +1,4 @@
-// The steps of one kind's upload, what they make of its plan, and what is said back. Everything here speaks of one plan at a time; its kind does not matter.
+// The steps of one kind's upload, what they do to the state, and what is said back. Everything here speaks of one plan at a time; its kind does not matter.
 use plan::Plan;
 
 mod counters;
@@ -13,15 +13,21 @@ pub enum Say {
     Ask(u16),
 }
 
-// What becomes of a plan: it stays as it is; it keeps its items, and its upload is another; or it is replaced or emptied.
-pub enum Turn {
-    Keeps,
-    Moves(Plan),
+// What a message or a timer call does to the state, where it does anything.
+pub enum Effect {
+    Nothing,
+    // The plan of the kind keeps its items, and its upload is another.
+    Turns(Plan),
+    // The plan of the kind is replaced or emptied.
     Renews(Plan),
+    // The plan of every kind is emptied.
+    EmptiesAll,
+    // An item of the flight plan becomes current.
+    Chooses(u16),
 }
 
-// What a handler makes of its plan, and what it says.
+// What a handler of one plan does, and what it says.
 pub struct Turned {
-    pub turn: Turn,
+    pub effect: Effect,
     pub say: Say,
 }

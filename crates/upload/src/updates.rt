@@ -1,8 +1,8 @@
 // One function for each update of a plan, and for each answer of a handler.
 ghost use mathlib.Core.Path.{_≡_};
 ghost use Rattle.upload.specs.Turns.{withUpload, ended, emptied, replaced, keeps, moves, renews};
+use super::Effect;
 use super::Say;
-use super::Turn;
 use super::Turned;
 use super::counters::next_number;
 use plan::Plan;
@@ -56,7 +56,7 @@ pub fn keeps(say: Say) -> Turned
     ensures { λ r. ⌜ r ≡ keeps say ⌝ }
 {
     Turned {
-        turn: Turn::Keeps,
+        effect: Effect::Nothing,
         say,
     }
 }
@@ -66,7 +66,7 @@ pub fn moves(plan: Plan, say: Say) -> Turned
     ensures { λ r. ⌜ r ≡ moves plan say ⌝ }
 {
     Turned {
-        turn: Turn::Moves(plan),
+        effect: Effect::Turns(plan),
         say,
     }
 }
@@ -76,7 +76,7 @@ pub fn renews(plan: Plan, say: Say) -> Turned
     ensures { λ r. ⌜ r ≡ renews plan say ⌝ }
 {
     Turned {
-        turn: Turn::Renews(plan),
+        effect: Effect::Renews(plan),
         say,
     }
 }

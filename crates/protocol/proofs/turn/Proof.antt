@@ -1,9 +1,8 @@
 -- Each id's message is the request that its struct reads as, and its own function answers it: one lemma a way.
 use Prim.Native.Nat.{ℕ, _≤_}
 use mathlib.Core.Path.{_≡_, refl, sym, ap}
-use mathlib.Core.List.{List}
 use mathlib.Core.Bool.{true}
-use Rattle.rules.specs.Limits.{rally, sizeOf}
+use Rattle.rules.specs.Limits.{sizeOf}
 use Rattle.rules.specs.Payload.{Bytes}
 use Rattle.rules.specs.Layouts.{setCurrentId, requestListId, countId, clearAllId, ackId, requestIntId, itemIntId}
 use Rattle.rules.specs.Messages.{Station, messageOf, decode}
@@ -15,59 +14,44 @@ use Rattle.wire.specs.declared.structs.ItemInt.{ItemInt}
 use Rattle.message_table.specs.Table.{isRead}
 use Rattle.wire.specs.Structs.{countMessage, requestIntMessage, itemIntMessage}
 use Rattle.plan.specs.declared.Plan.{Plan}
-use Rattle.ranges.specs.Ranges.{uploadRanged, plansRanged}
-use Rattle.ranges.specs.Ranged.{plan-ranges}
 use Rattle.refusal.specs.Refusals.{requestOf}
+use Rattle.upload.specs.declared.Effect.the-variants.{Nothing}
 use Rattle.upload.specs.declared.Turned.{Turned}
 use Rattle.upload.specs.Turns.{TurnAndStore, turnWith, countTurned, itemTurned}
-use Rattle.answers.specs.declared.Effect.the-variants.{Nothing}
 use Rattle.answers.specs.declared.Said.{Said}
 use Rattle.answers.specs.declared.Handled.{Handled}
-use Rattle.answers.specs.Effects.{planAmong, effectOf}
 use Rattle.answers.specs.Answered.{answerOf, Spoken, Handles}
 use Rattle.shown.specs.Shown.{listAnswer, requestAnswer}
-use Rattle.protocol.specs.Doing.{DoneBy, knownDone}
+use Rattle.protocol.specs.Doing.{DoneBy, planDone}
 use Rattle.protocol.proofs.Requests.{item-left}
 use borrow.Author.Needs.{needs}
 use Rattle.protocol.proofs.turn.Statement.{statement}
 use Rattle.protocol.proofs.turn.Tie as tie
 
--- the plan of the kind is in its ranges
-module _ (plans : List Plan) (kind : ℕ) (ranged : plansRanged plans ≡ true) (known : kind ≤ rally) where
-  length-ranged : planAmong plans kind .len ≤ sizeOf kind
-  length-ranged = plan-ranges plans ranged kind known .len
-
-  upload-ranged : uploadRanged (sizeOf kind) (planAmong plans kind .upload) ≡ true
-  upload-ranged = plan-ranges plans ranged kind known .upload
-
-module _ (plans : List Plan) (current : ℕ) (s : Bytes) (from : Station) (clock kind id : ℕ) (own : Bytes) where
-  abbrev plan : Plan
-  plan = planAmong plans kind
-
+module _ (p : Plan) (current : ℕ) (s : Bytes) (from : Station) (clock kind id : ℕ) (own : Bytes) where
   abbrev Goal : (s′ b b′ : Bytes) → Handled → Type 0
-  Goal = DoneBy (knownDone plans current s from clock kind (requestOf (decode id own)))
+  Goal = DoneBy (planDone p current s from clock kind (requestOf (decode id own)))
 
   -- what the request does that the message reads as
-  by-request : (req : Request) (s′ b b′ : Bytes) (r : Handled) → requestOf (decode id own) ≡ req
-      → DoneBy (knownDone plans current s from clock kind req) s′ b b′ r → Goal s′ b b′ r
+  by-request : (req : Request) (s′ b b′ : Bytes) (r : Handled) → requestOf (decode id own) ≡ req → DoneBy (planDone p current s from clock kind req) s′ b b′ r → Goal s′ b b′ r
   by-request req s′ b b′ r is done = rw is done
 
   module _ (b b′ : Bytes) (r : Handled) where
-    asks-list : (said : Said) → id ≡ requestListId → Spoken (listAnswer plan from kind) b b′ said → r ≡ record { effect = Nothing; said = said } → Goal s b b′ r
-    unfolding knownDone decode messageOf
+    asks-list : (said : Said) → id ≡ requestListId → Spoken (listAnswer p from kind) b b′ said → r ≡ record { effect = Nothing; said = said } → Goal s b b′ r
+    unfolding planDone decode messageOf
     asks-list said e spoken only =
         by-request asksList s b b′ r (rw e) (rw only (record { handles = record { effect = refl; spoken = spoken }; store = refl }))
 
     counts : (m : Count) (size : ℕ) (turned : Turned) → id ≡ countId → countMessage m ≡ decode countId own → size ≡ sizeOf kind
-        → turned ≡ countTurned plan from clock (m .count) size → Handles (effectOf (turned .turn) plans kind) (answerOf (turned .say) from kind) b b′ r → Goal s b b′ r
-    unfolding knownDone
+        → turned ≡ countTurned p from clock (m .count) size → Handles (turned .effect) (answerOf (turned .say) from kind) b b′ r → Goal s b b′ r
+    unfolding planDone
     counts m size turned e reads sized turn handles =
         by-request (announces (m .count)) s b b′ r (rw e (ap requestOf (sym reads)))
         (record { handles = rw (sym sized, sym turn) handles; store = refl })
 
     asks-item : (m : RequestInt) (said : Said) → id ≡ requestIntId → requestIntMessage m ≡ decode requestIntId own
-        → Spoken (requestAnswer plan current s from kind (m .seq)) b b′ said → r ≡ record { effect = Nothing; said = said } → Goal s b b′ r
-    unfolding knownDone
+        → Spoken (requestAnswer p current s from kind (m .seq)) b b′ said → r ≡ record { effect = Nothing; said = said } → Goal s b b′ r
+    unfolding planDone
     asks-item m said e reads spoken only =
         by-request (asksItem (m .seq)) s b b′ r (rw e (ap requestOf (sym reads)))
         (rw only (record { handles = record { effect = refl; spoken = spoken }; store = refl }))
@@ -75,19 +59,13 @@ module _ (plans : List Plan) (current : ℕ) (s : Bytes) (from : Station) (clock
     module _ (read : isRead (decode id own) ≡ true) (n41 : id ≡ setCurrentId → ⊥) (n45 : id ≡ clearAllId → ⊥) (n47 : id ≡ ackId → ⊥)
         (n43 : id ≡ requestListId → ⊥) (n44 : id ≡ countId → ⊥) (n51 : id ≡ requestIntId → ⊥) where
       brings-item : (m : ItemInt) (s′ : Bytes) (turned : Turned) → itemIntMessage m ≡ decode itemIntId own
-          → turnWith turned s′ ≡ itemTurned s kind (plan .upload) plan from clock (patterns (m .item))
-          → Handles (effectOf (turned .turn) plans kind) (answerOf (turned .say) from kind) b b′ r → Goal s′ b b′ r
-      unfolding knownDone
+          → turnWith turned s′ ≡ itemTurned s kind (p .upload) p from clock (patterns (m .item))
+          → Handles (turned .effect) (answerOf (turned .say) from kind) b b′ r → Goal s′ b b′ r
+      unfolding planDone
       brings-item m s′ turned reads turn handles =
           let e : id ≡ itemIntId = item-left id own read n41 n43 n44 n45 n47 n51 in
           by-request (brings (patterns (m .item))) s′ b b′ r (rw e (ap requestOf (sym reads)))
           (record { handles = rw (sym (ap (λ (t : TurnAndStore). t .turned) turn)) handles; store = ap (λ (t : TurnAndStore). t .store) turn })
-
-mul-plan : tie.Need-mul-plan
-mul-plan c = search needs
-
-array-copy-out-plan : tie.Need-array-copy-out-plan
-array-copy-out-plan c = search needs
 
 list-requires : tie.Need-list-requires
 list-requires c κs = search needs
@@ -111,7 +89,7 @@ read-request-int-requires : tie.Need-read-request-int-requires
 read-request-int-requires c κs = search needs
 
 request-requires : tie.Need-request-requires
-request-requires c κs = search (length-ranged, needs)
+request-requires c κs = search needs
 
 only-requires-2 : tie.Need-only-requires-2
 only-requires-2 c κs = search needs
@@ -120,7 +98,7 @@ read-item-int-requires : tie.Need-read-item-int-requires
 read-item-int-requires c κs = search needs
 
 take-item-requires : tie.Need-take-item-requires
-take-item-requires c κs = search (upload-ranged, needs)
+take-item-requires c κs = search needs
 
 told-requires-2 : tie.Need-told-requires-2
 told-requires-2 c κs = search needs
@@ -166,8 +144,6 @@ pub turn-spec : {M : Type 1} → statement M
 turn-spec =
     tie.close
     (tie.spec
-    mul-plan
-    array-copy-out-plan
     list-requires
     only-requires
     read-count-requires

@@ -1,10 +1,9 @@
 -- Below the flight length CURRENT is written, with the numbers shown, and the item chosen; else the text that there is none.
 use Prim.Native.Nat.{ℕ, _≤_, _<_}
 use mathlib.Core.Path.{_≡_, refl, sym}
-use mathlib.Core.List.{List}
 use lib.ListN.{length}
 use borrow.Author.Tests.{lt-ltb, le-ltb}
-use Rattle.rules.specs.Limits.{flight, fence, rally, replyBytesMin, replied}
+use Rattle.rules.specs.Limits.{replyBytesMin, replied}
 use Rattle.rules.specs.Payload.{Bytes}
 use Rattle.rules.specs.Messages.{current}
 use Rattle.rules.specs.Layouts.{currentId, statustextId}
@@ -13,39 +12,29 @@ use Rattle.wire.specs.declared.structs.Statustext.{Statustext}
 use Rattle.wire.specs.Structs.{statustextMessage}
 use Rattle.plan.specs.declared.Plan.{Plan}
 use Rattle.reply.specs.Written.{Wrote}
-use Rattle.answers.specs.declared.Effect.the-variants.{Nothing, Chooses}
+use Rattle.upload.specs.declared.Effect.the-variants.{Nothing, Chooses}
 use Rattle.answers.specs.declared.Handled.{Handled}
-use Rattle.answers.specs.Effects.{planAmong}
 use Rattle.answers.specs.Answered.{Handles, said, written-spoken}
 use Rattle.shown.specs.Shown.{numberOf, chooseEffect, chooseAnswer}
 use borrow.Author.Needs.{needs}
 use Rattle.shown.proofs.set_current.Statement.{statement}
 use Rattle.shown.proofs.set_current.Tie as tie
 
-module _ (plans : List Plan) (seq : ℕ) (b b′ : Bytes) (n : ℕ) (enough : replyBytesMin ≤ length b) where
-  chosen-now : (mission fences rallies : ℕ) → seq < planAmong plans flight .len → mission ≡ numberOf (planAmong plans flight) → fences ≡ numberOf (planAmong plans fence) → rallies ≡ numberOf (planAmong plans rally)
-      → Wrote (current seq (planAmong plans flight .len) 0 0 mission fences rallies) b b′ n
-      → Handles (chooseEffect plans seq) (chooseAnswer plans seq) b b′ (record { effect = Chooses seq; said = said replied currentId n })
+module _ (p q r : Plan) (seq : ℕ) (b b′ : Bytes) (n : ℕ) (enough : replyBytesMin ≤ length b) where
+  chosen-now : (mission fences rallies : ℕ) → seq < p .len → mission ≡ numberOf p → fences ≡ numberOf q → rallies ≡ numberOf r
+      → Wrote (current seq (p .len) 0 0 mission fences rallies) b b′ n
+      → Handles (chooseEffect p seq) (chooseAnswer p q r seq) b b′ (record { effect = Chooses seq; said = said replied currentId n })
   unfolding chooseEffect chooseAnswer
   chosen-now mission fences rallies below em ef er w =
       rw (lt-ltb _ _ below, sym em, sym ef, sym er)
-      (record { effect = refl; spoken = written-spoken (current seq (planAmong plans flight .len) 0 0 mission fences rallies) b b′ n enough w })
+      (record { effect = refl; spoken = written-spoken (current seq (p .len) 0 0 mission fences rallies) b b′ n enough w })
 
-  not-there : (text : Statustext) (h : Handled) → planAmong plans flight .len ≤ seq → statustextMessage text ≡ refusalText
+  not-there : (text : Statustext) (h : Handled) → p .len ≤ seq → statustextMessage text ≡ refusalText
       → Wrote (statustextMessage text) b b′ n → h ≡ record { effect = Nothing; said = said replied statustextId n }
-      → Handles (chooseEffect plans seq) (chooseAnswer plans seq) b b′ h
+      → Handles (chooseEffect p seq) (chooseAnswer p q r seq) b b′ h
   unfolding chooseEffect chooseAnswer
   not-there text h above says w is =
       rw (is, le-ltb _ _ above, sym says) (record { effect = refl; spoken = written-spoken (statustextMessage text) b b′ n enough w })
-
-array-copy-out-flight : tie.Need-array-copy-out-flight
-array-copy-out-flight c = search needs
-
-array-copy-out-fence : tie.Need-array-copy-out-fence
-array-copy-out-fence c = search needs
-
-array-copy-out-rally : tie.Need-array-copy-out-rally
-array-copy-out-rally c = search needs
 
 number-shown-requires : tie.Need-number-shown-requires
 number-shown-requires c κs = search needs
@@ -84,9 +73,6 @@ pub set-current-spec : {M : Type 1} → statement M
 set-current-spec =
     tie.close
     (tie.spec
-    array-copy-out-flight
-    array-copy-out-fence
-    array-copy-out-rally
     number-shown-requires
     number-shown-requires-2
     number-shown-requires-3

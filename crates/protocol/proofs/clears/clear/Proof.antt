@@ -8,8 +8,8 @@ use Rattle.rules.specs.Payload.{Bytes}
 use Rattle.rules.specs.Messages.{Station, ack}
 use Rattle.rules.specs.Step.{says, covered}
 use Rattle.plan.specs.declared.Plan.{Plan}
-use Rattle.answers.specs.declared.Effect.{Effect}
-use Rattle.answers.specs.declared.Effect.the-variants.{Nothing}
+use Rattle.upload.specs.declared.Effect.{Effect}
+use Rattle.upload.specs.declared.Effect.the-variants.{Nothing}
 use Rattle.answers.specs.declared.Said.{Said}
 use Rattle.answers.specs.declared.Handled.{Handled}
 use Rattle.answers.specs.Answered.{Spoken}
