@@ -1,2 +1,3 @@
--- Laws that several proofs cite: what a message asks by its id.
-pub mod Requests
+-- Laws that serve the proofs of several functions.
+mod Requests
+mod Covering

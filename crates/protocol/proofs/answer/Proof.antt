@@ -2,13 +2,14 @@
 use Prim.Native.Nat.{ℕ, _≤_}
 use mathlib.Core.Path.{_≡_, refl, sym, ap, subst, _∙_}
 use mathlib.Core.List.{List, [], _∷_}
-use mathlib.Core.Bool.{Bool, true, false, not}
+use mathlib.Core.Bool.{Bool, true, false, not, _||_}
+use lib.Dec.{eqb}
 use borrow.Author.Tests.{leb-true, not-true, not-false}
-use Rattle.rules.specs.Limits.{rally, unsupported}
+use Rattle.rules.specs.Limits.{rally, everyKind, unsupported}
 use Rattle.rules.specs.Payload.{Bytes}
 use Rattle.rules.specs.Layouts.{setCurrentId, clearAllId, ackId}
 use Rattle.rules.specs.Messages.{Station, ack, messageOf, decode}
-use Rattle.rules.specs.Calls.{Request, chooses, clears, acknowledges}
+use Rattle.rules.specs.Calls.{Request, chooses, clears, acknowledges, isKnown}
 use Rattle.rules.specs.Step.{says, kindOk}
 use Rattle.wire.specs.declared.structs.SetCurrent.{SetCurrent}
 use Rattle.wire.specs.declared.structs.Ack.{Ack}
@@ -18,26 +19,28 @@ use Rattle.ranges.specs.Ranges.{plansRanged}
 use Rattle.ranges.specs.Ranged.{PlanRanges, plan-ranges}
 use Rattle.refusal.specs.Refusals.{requestOf}
 use Rattle.upload.specs.declared.Effect.the-variants.{Nothing}
-use Rattle.upload.specs.declared.Turned.{Turned}
-use Rattle.upload.specs.Turns.{ackTurned}
 use Rattle.answers.specs.declared.Said.{Said}
 use Rattle.answers.specs.declared.Handled.{Handled}
-use Rattle.answers.specs.Answered.{answerOf, Spoken, Handles}
+use Rattle.answers.specs.Answered.{Spoken, Handles}
 use Rattle.shown.specs.Shown.{chooseEffect, chooseAnswer}
-use Rattle.protocol.specs.Doing.{DoneBy, planAmong, clearDone, planDone, knownDone, messageDone}
+use Rattle.protocol.specs.Doing.{DoneBy, IsPlanOf, planAmong, clearDone, planDone, knownDone, messageDone}
 use Rattle.protocol.proofs.Requests.{kind-known, of-one-plan}
 use borrow.Author.Needs.{needs}
 use Rattle.protocol.proofs.answer.Statement.{statement}
 use Rattle.protocol.proofs.answer.Tie as tie
 
--- the kind of a message that may have it, CLEAR_ALL and ACK aside, and its plan's ranges
-module _ (kind id : ℕ) (ok : Bool) (oks : (payload : Bytes) → ok ≡ kindOk kind (requestOf (decode id payload))) (may : not ok ≡ false)
-    (n45 : id ≡ clearAllId → ⊥) (n47 : id ≡ ackId → ⊥) where
-  known-kind : kind ≤ rally
-  known-kind = leb-true kind rally (kind-known id kind [] n45 n47 ∙ sym (oks []) ∙ not-false ok may)
+-- the kinds that a message may have
+module _ (kind id : ℕ) (ok : Bool) (oks : (payload : Bytes) → ok ≡ kindOk kind (requestOf (decode id payload))) (may : not ok ≡ false) where
+  known-or-every : id ≡ clearAllId → (isKnown kind || eqb kind everyKind) ≡ true
+  unfolding decode messageOf kindOk
+  known-or-every e = rw e at (sym (oks []) ∙ not-false ok may)
 
-  plan-ranged : (p q r x : Plan) → plansRanged p q r ≡ true → x ≡ planAmong (p ∷ q ∷ r ∷ []) kind → PlanRanges kind x
-  plan-ranged p q r x ranged e = subst (PlanRanges kind) (sym e) (plan-ranges p q r ranged kind known-kind)
+  module _ (n45 : id ≡ clearAllId → ⊥) (n47 : id ≡ ackId → ⊥) where
+    known-kind : kind ≤ rally
+    known-kind = leb-true kind rally (kind-known id kind [] n45 n47 ∙ sym (oks []) ∙ not-false ok may)
+
+    plan-ranged : (x p q r : Plan) → IsPlanOf kind x p q r → plansRanged p q r ≡ true → PlanRanges kind x
+    plan-ranged x p q r of ranged = subst (PlanRanges kind) (sym (of known-kind)) (plan-ranges p q r ranged kind known-kind)
 
 module _ (p q r : Plan) (current : ℕ) (s : Bytes) (from : Station) (clock kind id : ℕ) (own : Bytes) (ok : Bool)
     (oks : (payload : Bytes) → ok ≡ kindOk kind (requestOf (decode id payload))) where
@@ -56,14 +59,16 @@ module _ (p q r : Plan) (current : ℕ) (s : Bytes) (from : Station) (clock kind
       rw (t, only) (record { handles = record { effect = refl; spoken = spoken }; store = refl })
 
   module _ (may : not ok ≡ false) where
-    allowed : kindOk kind (requestOf (decode id own)) ≡ true
-    allowed = sym (oks own) ∙ not-false ok may
-
     -- a kind that it may have: what its request does
+    allowed : (s′ b b′ : Bytes) (h : Handled) → DoneBy (knownDone plans current s from clock kind (requestOf (decode id own))) s′ b b′ h → Goal s′ b b′ h
+    unfolding messageDone
+    allowed s′ b b′ h done =
+        let t : kindOk kind (requestOf (decode id own)) ≡ true = sym (oks own) ∙ not-false ok may in
+        rw t done
+
     by-request : (req : Request) (s′ b b′ : Bytes) (h : Handled) → requestOf (decode id own) ≡ req
         → DoneBy (knownDone plans current s from clock kind req) s′ b b′ h → Goal s′ b b′ h
-    unfolding messageDone
-    by-request req s′ b b′ h is done = rw (allowed, is) done
+    by-request req s′ b b′ h is done = allowed s′ b b′ h (rw is done)
 
     module _ (b b′ : Bytes) (h : Handled) where
       sets-current : (m : SetCurrent) → id ≡ setCurrentId → setCurrentMessage m ≡ decode setCurrentId own
@@ -76,17 +81,15 @@ module _ (p q r : Plan) (current : ℕ) (s : Bytes) (from : Station) (clock kind
       unfolding knownDone decode messageOf
       clears-all e done = by-request clears s b b′ h (rw e) (done s)
 
-      acknowledged : (m : Ack) (x : Plan) (turned : Turned) → id ≡ ackId → ackMessage m ≡ decode ackId own → x ≡ planAmong plans kind
-          → turned ≡ ackTurned x from (m .result) → Handles (turned .effect) (answerOf (turned .say) from kind) b b′ h → Goal s b b′ h
-      unfolding knownDone planDone
-      acknowledged m x turned e reads is turn handles =
-          by-request (acknowledges (m .result)) s b b′ h (rw e (ap requestOf (sym reads)))
-          (record { handles = rw (sym is, sym turn) handles; store = refl })
-
       turns-plan : (x : Plan) (s′ : Bytes) → (id ≡ setCurrentId → ⊥) → (id ≡ clearAllId → ⊥) → x ≡ planAmong plans kind
           → DoneBy (planDone x current s from clock kind (requestOf (decode id own))) s′ b b′ h → Goal s′ b b′ h
-      turns-plan x s′ n41 n45 is done =
-          by-request (requestOf (decode id own)) s′ b b′ h refl (rw (of-one-plan plans current s from clock kind id own n41 n45, sym is) done)
+      turns-plan x s′ n41 n45 is done = allowed s′ b b′ h (rw (of-one-plan plans current s from clock kind id own n41 n45, sym is) done)
+
+    acknowledged : (x : Plan) (b : Bytes) (h : Handled) (m : Ack) → id ≡ ackId → ackMessage m ≡ decode ackId own → IsPlanOf kind x p q r
+        → ((p′ q′ r′ : Plan) (current′ : ℕ) (store : Bytes) (clock′ : ℕ) (b₀ : Bytes) → IsPlanOf kind x p′ q′ r′
+        → DoneBy (knownDone (p′ ∷ q′ ∷ r′ ∷ []) current′ store from clock′ kind (acknowledges (m .result))) store b₀ b₀ h)
+        → Goal s b b h
+    acknowledged x b h m e reads of done = by-request (acknowledges (m .result)) s b b h (rw e (ap requestOf (sym reads))) (done p q r current s clock b of)
 
 kind-ok-requires : tie.Need-kind-ok-requires
 kind-ok-requires c κs = search needs
@@ -110,35 +113,25 @@ set-current-requires : tie.Need-set-current-requires
 set-current-requires c κs = search needs
 
 clear-requires : tie.Need-clear-requires
-clear-requires c κs = search needs
+clear-requires c κs = search (known-or-every, needs)
 
 read-ack-requires : tie.Need-read-ack-requires
 read-ack-requires c κs = search needs
 
-plan-of-requires : tie.Need-plan-of-requires
-plan-of-requires c κs = search needs
-
-on-ack-requires : tie.Need-on-ack-requires
-on-ack-requires c κs = search needs
-
-told-requires : tie.Need-told-requires
-told-requires c κs = search needs
-
-plan-of-requires-2 : tie.Need-plan-of-requires-2
-plan-of-requires-2 c κs = search needs
+acknowledge-requires : tie.Need-acknowledge-requires
+acknowledge-requires c κs = search needs
 
 turn-requires : tie.Need-turn-requires
 turn-requires c κs =
     let other = c .before .before in
-    let rest = other .before .match .rest in
-    let test = other .before .before in
+    let rest = other .match .rest in
+    let test = other .before in
     let oks = test .before .kind-ok .ensures in
-    let pre = test .before .before .before .before .before .pre in
+    let pre = test .before .before .before .before .pre in
     let n45 = rest .0 .1 in
-    let n47 = rest .1 in
-    let known = known-kind _ _ _ oks (test .if1 .left) n45 n47 in (
-      (known, plan-ranged _ _ _ oks (test .if1 .left) n45 n47 _ _ _ _ (pre .0) (other .plan-of2 .ensures), pre .1, pre .2),
-      (pre .3, rest .0 .0 .1, n45, n47),
+    let n47 = rest .1 in (
+      (known-kind _ _ _ oks (test .if1 .left) n45 n47, plan-ranged _ _ _ oks (test .if1 .left) n45 n47 _ _ _ _ (pre .0) (pre .1), pre .2, pre .3),
+      (pre .4, rest .0 .0 .1, n45, n47),
     )
 
 same-length-2 : tie.Need-same-length-2
@@ -153,26 +146,26 @@ same-length-3 c = search needs
 returns-3 : tie.Need-returns-3
 returns-3 c = search (clears-all, needs)
 
-same-length-4 : tie.Need-same-length-4
-same-length-4 c = search needs
-
 returns-4 : tie.Need-returns-4
 returns-4 c = search (acknowledged, needs)
 
+same-length-4 : tie.Need-same-length-4
+same-length-4 c = search needs
+
 same-length-5 : tie.Need-same-length-5
 same-length-5 c = search needs
-
-same-length-6 : tie.Need-same-length-6
-same-length-6 c = search needs
 
 returns-5 : tie.Need-returns-5
 returns-5 c =
     let turned = c .before .before .before .before in
     let other = turned .before .before .before in
-    let rest = other .before .match .rest in
-    let test = other .before .before in
-    turns-plan _ _ _ _ _ _ _ _ _ _ _ (test .before .kind-ok .ensures) (test .if1 .left) _ _ _ _ _ (rest .0 .0 .1) (rest .0 .1)
-    (other .plan-of2 .ensures) (turned .turn .ensures)
+    let rest = other .match .rest in
+    let test = other .before in
+    let oks = test .before .kind-ok .ensures in
+    let pre = test .before .before .before .before .pre in
+    let n45 = rest .0 .1 in
+    turns-plan _ _ _ _ _ _ _ _ _ _ _ oks (test .if1 .left) _ _ _ _ _ (rest .0 .0 .1) n45
+    (pre .0 (known-kind _ _ _ oks (test .if1 .left) n45 (rest .1))) (turned .turn .ensures)
 
 pub answer-spec : {M : Type 1} → statement M
 answer-spec =
@@ -187,17 +180,13 @@ answer-spec =
     set-current-requires
     clear-requires
     read-ack-requires
-    plan-of-requires
-    on-ack-requires
-    told-requires
-    plan-of-requires-2
+    acknowledge-requires
     turn-requires
     same-length-2
     returns-2
     same-length-3
     returns-3
-    same-length-4
     returns-4
+    same-length-4
     same-length-5
-    same-length-6
     returns-5)

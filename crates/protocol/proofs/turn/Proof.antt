@@ -136,7 +136,7 @@ returns-4 c =
     let taken = told .before .before .before .before in
     let read = taken .before .before .before in
     let rest = read .before .match .rest in
-    let pre = read .before .before .before .before .before .pre .1 in
+    let pre = read .before .before .before .before .pre .1 in
     brings-item _ _ _ _ _ _ _ _ _ _ _ (pre .0) (pre .1) (pre .2) (pre .3) (rest .0 .0 .1) (rest .0 .1) (rest .1)
     (read .read-item-int .result) _ _ (read .read-item-int .ensures .0) (taken .take-item .ensures) (told .told2 .ensures)
 

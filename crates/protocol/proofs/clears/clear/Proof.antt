@@ -1,11 +1,13 @@
 -- By whether a covered upload is another station's.
 use Prim.Native.Nat.{ℕ}
 use mathlib.Core.Path.{_≡_, refl, sym, _∙_}
-use mathlib.Core.List.{List}
-use mathlib.Core.Bool.{Bool, true, false}
-use Rattle.rules.specs.Limits.{accepted, denied}
+use mathlib.Core.List.{List, [], _∷_}
+use mathlib.Core.Bool.{Bool, true, false, _||_}
+use lib.Dec.{eqb}
+use Rattle.rules.specs.Limits.{everyKind, accepted, denied}
 use Rattle.rules.specs.Payload.{Bytes}
 use Rattle.rules.specs.Messages.{Station, ack}
+use Rattle.rules.specs.Calls.{isKnown}
 use Rattle.rules.specs.Step.{says, covered}
 use Rattle.plan.specs.declared.Plan.{Plan}
 use Rattle.upload.specs.declared.Effect.{Effect}
@@ -13,25 +15,31 @@ use Rattle.upload.specs.declared.Effect.the-variants.{Nothing}
 use Rattle.answers.specs.declared.Said.{Said}
 use Rattle.answers.specs.declared.Handled.{Handled}
 use Rattle.answers.specs.Answered.{Spoken}
-use Rattle.protocol.specs.Doing.{DoneBy, othersAmong, clearEffect, clearDone}
+use Rattle.protocol.specs.Doing.{DoneBy, IsPlanOf, othersAmong, clearEffect, clearDone}
 use borrow.Author.Needs.{needs}
 use Rattle.protocol.proofs.clears.clear.Statement.{statement}
 use Rattle.protocol.proofs.clears.clear.Tie as tie
 
-module _ (ps : List Plan) (from : Station) (kind : ℕ) (b b′ : Bytes) (others : Bool) (said : Said) (among : others ≡ othersAmong ps from (covered kind)) where
+module _ (p q r : Plan) (from : Station) (kind : ℕ) (b b′ : Bytes) (others : Bool) (said : Said)
+    (among : others ≡ othersAmong (p ∷ q ∷ r ∷ []) from (covered kind)) where
+  abbrev plans : List Plan
+  plans = p ∷ q ∷ r ∷ []
+
   denies : (h : Handled) → others ≡ true → Spoken (says (ack from denied kind 0)) b b′ said → h ≡ record { effect = Nothing; said = said }
-      → (store : Bytes) → DoneBy (clearDone ps store from kind) store b b′ h
+      → (store : Bytes) → DoneBy (clearDone plans store from kind) store b b′ h
   unfolding clearDone
   denies h is spoken eh store =
-      let t : othersAmong ps from (covered kind) ≡ true = sym among ∙ is in
+      let t : othersAmong plans from (covered kind) ≡ true = sym among ∙ is in
       rw (t, eh) (record { handles = record { effect = refl; spoken = spoken }; store = refl })
 
-  clears : (e : Effect) → others ≡ false → e ≡ clearEffect ps kind → Spoken (says (ack from accepted kind 0)) b b′ said
-      → (store : Bytes) → DoneBy (clearDone ps store from kind) store b b′ (record { effect = e; said = said })
+  clears : (x : Plan) (e : Effect) → others ≡ false → (isKnown kind || eqb kind everyKind) ≡ true → IsPlanOf kind x p q r
+      → ((a b c : Plan) → (isKnown kind || eqb kind everyKind) ≡ true → IsPlanOf kind x a b c → e ≡ clearEffect (a ∷ b ∷ c ∷ []) kind)
+      → Spoken (says (ack from accepted kind 0)) b b′ said
+      → (store : Bytes) → DoneBy (clearDone plans store from kind) store b b′ (record { effect = e; said = said })
   unfolding clearDone
-  clears e is ee spoken store =
-      let t : othersAmong ps from (covered kind) ≡ false = sym among ∙ is in
-      rw (t, sym ee) (record { handles = record { effect = refl; spoken = spoken }; store = refl })
+  clears x e is covers of ee spoken store =
+      let t : othersAmong plans from (covered kind) ≡ false = sym among ∙ is in
+      rw (t, sym (ee p q r covers of)) (record { handles = record { effect = refl; spoken = spoken }; store = refl })
 
 others-among-requires : tie.Need-others-among-requires
 others-among-requires c κs = search needs

@@ -2,14 +2,17 @@
 use Prim.Native.Nat.{ℕ}
 use mathlib.Core.Path.{_≡_}
 use mathlib.Core.List.{[], _∷_}
-use mathlib.Core.Bool.{Bool, _||_, or-false, or-assoc}
+use mathlib.Core.Bool.{Bool, true, _||_, or-false, or-assoc}
+use lib.Dec.{eqb}
 use borrow.Author.Tests.{eq-eqb, ne-eqb}
 use Rattle.rules.specs.Limits.{everyKind}
 use Rattle.rules.specs.Messages.{Station}
+use Rattle.rules.specs.Calls.{isKnown}
 use Rattle.rules.specs.Step.{covered}
 use Rattle.plan.specs.declared.Plan.{Plan}
 use Rattle.upload.specs.Turns.{othersUpload}
-use Rattle.protocol.specs.Doing.{planAmong, othersAmong}
+use Rattle.protocol.specs.Doing.{IsPlanOf, othersAmong}
+use Rattle.protocol.proofs.Covering.{one}
 use borrow.Author.Needs.{needs}
 use Rattle.protocol.proofs.clears.others_among.Statement.{statement}
 use Rattle.protocol.proofs.clears.others_among.Tie as tie
@@ -19,9 +22,9 @@ module _ (p q r : Plan) (from : Station) (kind : ℕ) where
       → (a || b || c) ≡ othersAmong (p ∷ q ∷ r ∷ []) from (covered kind)
   among a b c e ea eb ec = simp (eq-eqb kind everyKind e, ea, eb, ec, or-false, or-assoc)
 
-  itself : (x : Plan) (a : Bool) → (kind ≡ everyKind → ⊥) → x ≡ planAmong (p ∷ q ∷ r ∷ []) kind → a ≡ othersUpload from (x .upload)
-      → a ≡ othersAmong (p ∷ q ∷ r ∷ []) from (covered kind)
-  itself x a other ex ea = simp (ne-eqb kind everyKind other, ea, ex, or-false)
+  itself : (x : Plan) (a : Bool) → (kind ≡ everyKind → ⊥) → (isKnown kind || eqb kind everyKind) ≡ true → IsPlanOf kind x p q r
+      → a ≡ othersUpload from (x .upload) → a ≡ othersAmong (p ∷ q ∷ r ∷ []) from (covered kind)
+  itself x a other covers of ea = simp (ne-eqb kind everyKind other, ea, of (one kind covers other), or-false)
 
 others-upload-requires : tie.Need-others-upload-requires
 others-upload-requires c κs = search needs
@@ -34,9 +37,6 @@ others-upload-requires-3 c κs = search needs
 
 returns : tie.Need-returns
 returns c = search (among, needs)
-
-plan-of-requires : tie.Need-plan-of-requires
-plan-of-requires c κs = search needs
 
 others-upload-requires-4 : tie.Need-others-upload-requires-4
 others-upload-requires-4 c κs = search needs
@@ -52,6 +52,5 @@ others-among-spec =
     others-upload-requires-2
     others-upload-requires-3
     returns
-    plan-of-requires
     others-upload-requires-4
     returns-2)
