@@ -1,48 +1,54 @@
+-- A refused call by the refusal's number, and Stuck; any other by the next command, and the item at which it stands.
+-- A refused call by the refusal's number, and Stuck; any other by the next command, and the item at which it stands.
 use borrow.Author.Needs.{needs}
+use Rattle.service.proofs.Ways.{length-mapped, DoneTaken, done-refused, done-taken, done-stands, done-stays}
 use Rattle.service.proofs.advance.Statement.{statement}
 use Rattle.service.proofs.advance.Tie as tie
-use Rattle.service.proofs.advance.Reads as reads
-use Rattle.service.proofs.advance.Lts as lts
-use Rattle.next_command.proofs.next.Reads as next-reads
-use Rattle.ranges.proofs.ranged.Reads as ranged-reads
-use Rattle.refusal.proofs.done_refusal.Reads as done-refusal-reads
 
--- src/lib.rt:147:9
+element-copy-out-flight : tie.Need-element-copy-out-flight
+element-copy-out-flight c = search needs
+
+element-copy-out-fence : tie.Need-element-copy-out-fence
+element-copy-out-fence c = search needs
+
+element-copy-out-rally : tie.Need-element-copy-out-rally
+element-copy-out-rally c = search needs
+
 ranged-requires : tie.Need-ranged-requires
 ranged-requires c κs = search needs
 
--- src/lib.rt:148:9
 done-refusal-requires : tie.Need-done-refusal-requires
 done-refusal-requires c κs = search needs
 
--- src/lib.rt:150:9
 returns : tie.Need-returns
-returns c = ?
+returns c = search (done-refused, needs)
 
--- src/lib.rt:156:18
-array-copy-out-flight : tie.Need-array-copy-out-flight
-array-copy-out-flight c = search needs
+-- from where nothing was refused back to the call's beginning
+abbrev entry : tie.Else1 → tie.Start
+entry c = c .before .before .before .before .before .before .before .before .before .before
 
--- src/lib.rt:158:9
+taken : (c : tie.Else1) → DoneTaken (entry c .args .t1) (entry c .args .store .now)
+taken c = search (done-taken, length-mapped, needs)
+
 next-requires : tie.Need-next-requires
-next-requires c κs = ?
+next-requires c κs = let t = taken (c .before) in (t .long, t .len, t .current)
 
--- src/lib.rt:143:1
 returns-2 : tie.Need-returns-2
-returns-2 c = ?
+returns-2 c = let t = taken (c .before .before .before .before) in search (done-stands, t, needs)
 
--- src/lib.rt:143:1
 returns-3 : tie.Need-returns-3
-returns-3 c = ?
+returns-3 c = let t = taken (c .before .before .before) in search (done-stays, t, needs)
 
 pub advance-spec : {M : Type 1} → statement M
 advance-spec =
     tie.close
     (tie.spec
+    element-copy-out-flight
+    element-copy-out-fence
+    element-copy-out-rally
     ranged-requires
     done-refusal-requires
     returns
-    array-copy-out-flight
     next-requires
     returns-2
     returns-3)

@@ -1,66 +1,80 @@
+-- A refused call by the refusal's number; any other by the timer's turn, put into the state.
+-- A refused call by the refusal's number; any other by the timer's turn, put into the state.
 use borrow.Author.Needs.{needs}
+use Rattle.service.proofs.Ways.{length-mapped, TimerTaken, timer-refused, timer-taken, timer-turns, timer-nothing}
 use Rattle.service.proofs.timer.Statement.{statement}
 use Rattle.service.proofs.timer.Tie as tie
-use Rattle.service.proofs.timer.Reads as reads
-use Rattle.service.proofs.timer.Lts as lts
-use Rattle.protocol.proofs.expire.Reads as expire-reads
-use Rattle.ranges.proofs.ranged.Reads as ranged-reads
-use Rattle.refusal.proofs.timer_refusal.Reads as timer-refusal-reads
 
--- src/lib.rt:118:9
+element-copy-out-flight : tie.Need-element-copy-out-flight
+element-copy-out-flight c = search needs
+
+element-copy-out-fence : tie.Need-element-copy-out-fence
+element-copy-out-fence c = search needs
+
+element-copy-out-rally : tie.Need-element-copy-out-rally
+element-copy-out-rally c = search needs
+
 ranged-requires : tie.Need-ranged-requires
 ranged-requires c κs = search needs
 
--- src/lib.rt:119:9
 timer-refusal-requires : tie.Need-timer-refusal-requires
 timer-refusal-requires c κs = search needs
 
--- src/lib.rt:121:9
 returns : tie.Need-returns
-returns c = ?
+returns c = search (timer-refused, needs)
 
--- src/lib.rt:128:9
-expire-requires : tie.Need-expire-requires
-expire-requires c κs = ?
+-- from where nothing was refused back to the call's beginning
+abbrev entry : tie.Else1 → tie.Start
+entry c = c .before .before .before .before .before .before .before .before .before .before .before
 
--- src/lib.rt:131:26
-enum-known-effect : tie.Need-enum-known-effect
-enum-known-effect c = search needs
+taken : (c : tie.Else1) → TimerTaken (entry c .args .t1) (entry c .args .store .now) (entry c .args .reply .now) (entry c .args .kind) (entry c .args .clock)
+taken c = search (timer-taken, length-mapped, needs)
 
--- src/lib.rt:132:9
 mul-plan : tie.Need-mul-plan
 mul-plan c = search needs
 
--- src/lib.rt:132:9
-element-set-from-plan : tie.Need-element-set-from-plan
-element-set-from-plan c = ?
+element-copy-out-plan : tie.Need-element-copy-out-plan
+element-copy-out-plan c = let t = taken c in search (t, needs)
 
--- src/lib.rt:114:1
+expire-requires : tie.Need-expire-requires
+expire-requires c κs = taken (c .before .before) .room
+
+enum-known-effect : tie.Need-enum-known-effect
+enum-known-effect c = search needs
+
+mul-plan-2 : tie.Need-mul-plan-2
+mul-plan-2 c = search needs
+
+element-set-from-plan : tie.Need-element-set-from-plan
+element-set-from-plan c = let t = taken (c .before .before .before .before .before .before .before .before .before) in search (t, needs)
+
 same-length : tie.Need-same-length
 same-length c = search needs
 
--- src/lib.rt:114:1
 returns-2 : tie.Need-returns-2
-returns-2 c = ?
+returns-2 c = let t = taken (c .before .before .before .before .before .before .before .before .before) in search (timer-turns, t, needs)
 
--- src/lib.rt:114:1
 same-length-2 : tie.Need-same-length-2
 same-length-2 c = search needs
 
--- src/lib.rt:114:1
 returns-3 : tie.Need-returns-3
-returns-3 c = ?
+returns-3 c = let t = taken (c .before .before .before .before .before .before .before) in search (timer-nothing, t, needs)
 
 pub timer-spec : {M : Type 1} → statement M
 timer-spec =
     tie.close
     (tie.spec
+    element-copy-out-flight
+    element-copy-out-fence
+    element-copy-out-rally
     ranged-requires
     timer-refusal-requires
     returns
+    mul-plan
+    element-copy-out-plan
     expire-requires
     enum-known-effect
-    mul-plan
+    mul-plan-2
     element-set-from-plan
     same-length
     returns-2

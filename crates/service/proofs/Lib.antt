@@ -1,0 +1,2 @@
+-- The ways of the public calls.
+mod Ways
