@@ -1,6 +1,10 @@
 // The lines of a dump: the plans and uploads of each kind, and the current item.
 mod plans;
 
+ghost use mathlib.Core.Path.{_≡_};
+ghost use Rattle.rules.specs.Payload.{Bytes};
+ghost use Rattle.rules.specs.Model.{inRange};
+ghost use Rattle.plan.specs.View.{view};
 ghost use Rattle.adding.specs.Added.{Adds};
 ghost use Rattle.dump.specs.Dumps.{currentLine, stateText, dumpText};
 use limits::FENCE;
@@ -38,11 +42,21 @@ fn put_state(out: &mut [u8], at: usize, state: State, store: &[u8]) -> usize
     put_current(out, end, state.current, state.begun, counts)
 }
 
+// Whether every number of a state is in its range, whatever the store holds.
+fn in_range(state: State) -> bool
+    ensures { λ r. ⌜ ((store : Bytes) → r ≡ inRange (view state store)) ⌝ }
+{
+    let flight = state.plans[0];
+    let fence = state.plans[1];
+    let rally = state.plans[2];
+    ranges::ranged(flight, fence, rally, state.current, &state.counts)
+}
+
 // The whole dump; outcome 15 alone where a number of the state is out of its range.
 pub fn put_dump(out: &mut [u8], at: usize, state: State, store: &[u8]) -> usize
     ensures { λ r. ⌜ Adds (dumpText state (now (store .entry))) (now (out .entry)) at (now (out .exit)) r ⌝ }
 {
-    let ranged = ranges::ranged(state);
+    let ranged = in_range(state);
     let end = rows::put_row(out, at, b'D', &[OUT_OF_RANGE as u64 * (!ranged) as u64]);
     if !ranged {
         return end;

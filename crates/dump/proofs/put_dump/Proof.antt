@@ -9,8 +9,8 @@ use borrow.Author.Tests.{not-true, not-false}
 use Rattle.dump.proofs.put_dump.Statement.{statement}
 use Rattle.dump.proofs.put_dump.Tie as tie
 
-ranged-requires : tie.Need-ranged-requires
-ranged-requires c κs = search needs
+in-range-requires : tie.Need-in-range-requires
+in-range-requires c κs = search needs
 
 cast-t10 : tie.Need-cast-t10
 cast-t10 c = search needs
@@ -19,7 +19,7 @@ cast-t12 : tie.Need-cast-t12
 cast-t12 c = tt
 
 mul-t13 : tie.Need-mul-t13
-mul-t13 c = flag-times outOfRange (search needs) (not (c .before .ranged .result))
+mul-t13 c = flag-times outOfRange (search needs) (not (c .before .in-range .result))
 
 slice-aggregate-put-row : tie.Need-slice-aggregate-put-row
 slice-aggregate-put-row c = search needs
@@ -35,7 +35,7 @@ returns c =
     let p = c .before .before .before in
     let g = p .before .before .before in
     let a = g .before .before .before .args in
-    out-of-range (a .state) (now (a .store)) (g .ranged .result) (g .ranged .ensures .0 (now (a .store))) _ _ _ _ (not-true _ (c .if1 .taken)) (p .put-row .ensures)
+    out-of-range (a .state) (now (a .store)) (g .in-range .result) (g .in-range .ensures (now (a .store))) _ _ _ _ (not-true _ (c .if1 .taken)) (p .put-row .ensures)
 
 put-state-requires : tie.Need-put-state-requires
 put-state-requires c κs = search needs
@@ -50,13 +50,13 @@ returns-2 c =
     let p = i .before .before .before in
     let g = p .before .before .before in
     let a = g .before .before .before .args in
-    in-range (a .state) (now (a .store)) (g .ranged .result) (g .ranged .ensures .0 (now (a .store))) _ _ _ _ _ _ (not-false _ (i .if1 .left)) (p .put-row .ensures) (s .put-state .ensures)
+    in-range (a .state) (now (a .store)) (g .in-range .result) (g .in-range .ensures (now (a .store))) _ _ _ _ _ _ (not-false _ (i .if1 .left)) (p .put-row .ensures) (s .put-state .ensures)
 
 pub put-dump-spec : {M : Type 1} → statement M
 put-dump-spec =
     tie.close
     (tie.spec
-    ranged-requires
+    in-range-requires
     cast-t10
     cast-t12
     mul-t13
