@@ -138,7 +138,16 @@ pub fn answer(
             acknowledge(plan, kind, m.result, system, component)
         }
         _ => turn(
-            plan, current, store, reply, kind, system, component, id, own, clock,
+            plan,
+            current,
+            store,
+            reply,
+            kind,
+            system,
+            component,
+            id,
+            own,
+            clock,
         ),
     }
 }
