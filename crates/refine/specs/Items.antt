@@ -31,7 +31,7 @@ use Rattle.places.specs.Writes.{putAt, Apart, otherHalf, otherKind, beyond, ite
 use Rattle.plan.specs.View.{planOf, planIn, runIn, uploadIn, view, stationIn}
 use Rattle.upload.specs.declared.Say.{Say}
 use Rattle.upload.specs.declared.Say.the-variants.{Ack, Ask}
-use Rattle.upload.specs.Turns.{withUpload, ended, replaced, oneMore, keeps, moves, renews, TurnAndStore, turnWith, validItemTurned, itemVerdict, itemTurned}
+use Rattle.upload.specs.Turns.{withUpload, ended, replaced, oneMore, moves, renews, TurnAndStore, turnWith, validItemTurned, itemVerdict, itemTurned}
 use Rattle.answers.specs.Answered.{answerOf}
 use Rattle.refine.specs.After.{afterTurn, afterItem}
 use Rattle.refine.specs.Views.{plan-shown, upload-shown, length-shown, view-upload, view-renewed}

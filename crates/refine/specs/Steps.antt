@@ -17,7 +17,7 @@ use Rattle.rules.specs.Calls.{Call, Request, chooses, asksList, announces, clea
 use Rattle.rules.specs.NextCommand.{next, answerOf, advance}
 use Rattle.rules.specs.Step.{refused, orders, isRefused, Stepped, covered, kindOk, act, step}
 use Rattle.rule_laws.specs.Tests.{both, either}
-use Rattle.rule_laws.specs.Kinds.{covered-known, known-below}
+use Rattle.rule_laws.specs.Kinds.{known-below}
 use Rattle.rule_laws.specs.Lists.{at-set}
 use Rattle.rule_laws.specs.Layout.{length-itemOf}
 use Rattle.rule_laws.specs.Refused.{message-answered, timer-answered}

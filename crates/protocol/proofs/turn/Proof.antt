@@ -1,5 +1,5 @@
 -- Each id's message is the request that its struct reads as, and its own function answers it: one lemma a way.
-use Prim.Native.Nat.{ℕ, _≤_}
+use Prim.Native.Nat.{ℕ}
 use mathlib.Core.Path.{_≡_, refl, sym, ap}
 use mathlib.Core.Bool.{true}
 use Rattle.rules.specs.Limits.{sizeOf}

@@ -4,7 +4,7 @@ use mathlib.Core.Path.{_≡_, sym}
 use lib.ListN.{length}
 use Rattle.rules.specs.Limits.{replied, replyBytesMin}
 use Rattle.rules.specs.Payload.{Bytes}
-use Rattle.rules.specs.Messages.{Station, station, count}
+use Rattle.rules.specs.Messages.{station, count}
 use Rattle.rules.specs.Layouts.{countId}
 use Rattle.plan.specs.declared.Plan.{Plan}
 use Rattle.reply.specs.Written.{Wrote}
