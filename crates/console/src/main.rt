@@ -10,12 +10,12 @@ use streams::Unread;
 // The longest record, and the buffer that records are read into.
 const MOST_RECORD: usize = HEADER_BYTES + MOST_PAYLOAD;
 
-const INPUT: usize = 4096;
+const INPUT: usize = 65536;
 
 // More than the lines of any record take, a dump of full plans and uploads included, and the buffer of lines.
 const MOST_LINES: usize = 61440;
 
-const OUTPUT: usize = 65536;
+const OUTPUT: usize = 131072;
 
 // A proved loop has to end, and nothing says that a script does. So the turns are counted down, from a number that no run uses up.
 fn main() {
