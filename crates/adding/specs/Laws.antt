@@ -38,6 +38,10 @@ adds-nothing before at r e =
     let same : added before at [] ≡ take at before = rw append-nil (take-all (length before) (take at before) (omega (arith, length-take at before))) in
     record { text = ap (λ (k : ℕ). take k before) size ∙ front-again at before ∙ sym same; size = size ∙ ap length (sym same); room = refl }
 
+-- more, from where the text so far ends
+pub adds-within : (t before after : List ℕ) (at n r : ℕ) → n ≡ min at (length before) → Adds t before n after r → Adds t before at after r
+adds-within t before after at n r e adds = adds-both (adds-nothing before at n e) adds
+
 -- a byte where there is room
 pub adds-byte : (before : List ℕ) (at b : ℕ) → at < length before → Adds (b ∷ []) before at (set before at b) (at + 1)
 adds-byte before at b h =

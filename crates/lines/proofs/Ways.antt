@@ -1,7 +1,7 @@
 -- The lines, for each way that the tests can go.
 use Prim.Native.Nat.{ℕ, _+_, _*_, _<_, _≤_, min}
 use mathlib.Core.Path.{_≡_, refl, ap, sym, _∙_}
-use mathlib.Core.Bool.{Bool, true, false}
+use mathlib.Core.Bool.{Bool, true, false, _&&_, and-assoc, and-true}
 use mathlib.Core.List.{List, [], _∷_, _++_, append-assoc}
 use native.Mathlib.Numerals.{add-one}
 use lib.Dec.{eqb}
@@ -10,7 +10,7 @@ use lib.Seq.{drop-cons}
 use mir.Syntax.{w64}
 use mir.Val.{Fits, boolByte}
 use borrow.Author.Needs.{needs}
-use borrow.Author.Tests.{eq-eqb, ne-eqb, eqb-true}
+use borrow.Author.Tests.{eqb-true}
 use Rattle.adding.specs.Added.{Adds, each}
 use Rattle.text.specs.Words.{ascii}
 use Rattle.text.specs.Digits.{hex}
@@ -23,18 +23,14 @@ use Rattle.lines.specs.Lines.{replyText, untouched, markedEnd, servedLin
 
 -- the bytes past a reply
 
-module _ (l : List ℕ) (i : ℕ) where
-  pub untouched-more : i < length l → getD l i 0 ≡ 165 → untouched (drop (i + 1) l) ≡ untouched (drop i l)
+module _ (l : List ℕ) (same : Bool) (i : ℕ) where
+  pub untouched-more : i < length l → (same && eqb (getD l i 0) 165 && untouched (drop (i + 1) l)) ≡ (same && untouched (drop i l))
   unfolding untouched
-  untouched-more h e = rw (add-one, drop-cons l i 0 h, eq-eqb (getD l i 0) 165 e)
+  untouched-more h = rw (add-one, drop-cons l i 0 h, and-assoc)
 
-  pub touched : i < length l → (getD l i 0 ≡ 165 → ⊥) → false ≡ untouched (drop i l)
+  pub untouched-all : length l ≤ i → same ≡ (same && untouched (drop i l))
   unfolding untouched
-  touched h e = rw (drop-cons l i 0 h, ne-eqb (getD l i 0) 165 e)
-
-  pub untouched-all : length l ≤ i → true ≡ untouched (drop i l)
-  unfolding untouched
-  untouched-all h = rw (drop-of-length-le l h)
+  untouched-all h = rw (drop-of-length-le l h, and-true)
 
 -- the parts of a line
 

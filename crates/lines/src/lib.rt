@@ -9,18 +9,18 @@ use script::Next;
 // What a reply array holds before a call.
 pub const REPLY_FILL: u8 = 0xA5;
 
-// Whether the bytes of a reply array from len on are what they were before the call.
+// Whether the bytes of a reply array from len on are what they were before the call. All are looked at: a loop that does not leave early is one that the
+// compiler makes wide.
 fn untouched(reply: &[u8], len: usize) -> bool
     ensures { λ r. ⌜ r ≡ Lines·untouched (drop len (now (reply .entry))) ⌝ }
 {
+    let mut same = true;
     let mut i = len;
     while i < reply.len() {
-        if reply[i] != REPLY_FILL {
-            return false;
-        }
+        same = same & (reply[i] == REPLY_FILL);
         i += 1;
     }
-    true
+    same
 }
 
 // What a message or a timer call returned, and the reply.

@@ -10,7 +10,7 @@ use lib.ListN.{length, set, take, drop, length-set, length-drop}
 use lib.Seq.{drop-cons, drop-set-lt, getD-set-same, take-all}
 use borrow.Author.Tests.{lt-ltb, le-ltb}
 use Rattle.adding.specs.Added.{Adds}
-use Rattle.adding.specs.Laws.{adds-both}
+use Rattle.adding.specs.Laws.{adds-both, adds-byte}
 use Rattle.text.specs.Digits.{digit, decimalIn, decimal, twoDigits}
 
 -- how many digits a number may have does not matter, where there are enough
@@ -81,3 +81,14 @@ pub adds-two
     → Adds (low ∷ []) between n after r
     → Adds (twoDigits b) before at after r
 adds-two b high low h l first second = rw (← h, ← l) (adds-both first second)
+
+-- and written where there is room for both
+pub two-written
+    : (b high low : ℕ) (before : List ℕ) (at : ℕ)
+    → high ≡ digit (b / 16)
+    → low ≡ digit (b % 16)
+    → at + 2 ≤ length before
+    → Adds (twoDigits b) before at (set (set before at high) (at + 1) low) (at + 2)
+two-written b high low before at h l room =
+    let end : at + 2 ≡ at + 1 + 1 = omega arith in
+    rw end (adds-two b high low h l (adds-byte before at high (omega arith)) (adds-byte (set before at high) (at + 1) low (omega (arith, length-set before at high))))

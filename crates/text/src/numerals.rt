@@ -1,6 +1,7 @@
 // Numbers and bytes as text, behind the text so far, which ends at a place. Each function answers where the text then ends.
-ghost use Prim.Native.Nat.{_<_};
+ghost use Prim.Native.Nat.{_+_, _*_, _<_, _≤_};
 ghost use mathlib.Core.Path.{_≡_};
+ghost use lib.ListN.{length};
 ghost use Rattle.adding.specs.Added.{Adds};
 ghost use Rattle.text.specs.Digits.{digit as Digits·digit, decimal, afterSpace, spaced, twoDigits, hex};
 use adding::put;
@@ -79,8 +80,25 @@ fn put_two_digits(out: &mut [u8], at: usize, byte: u8) -> usize
     put_byte(out, end, digit(byte % 16))
 }
 
-// Bytes, two hexadecimal digits each.
-pub fn put_hex(out: &mut [u8], at: usize, bytes: &[u8]) -> usize
+// The digits of bytes, where there is room for all of them.
+fn put_all_digits(out: &mut [u8], at: usize, bytes: &[u8]) -> usize
+    requires { ⌜ at + 2 * length (now bytes) ≤ length (now out) ⌝ }
+    ensures { λ r. ⌜ Adds (hex (now (bytes .entry))) (now (out .entry)) at (now (out .exit)) r ⌝ }
+{
+    let mut end = at;
+    let mut i = 0;
+    while i < bytes.len() {
+        let byte = bytes[i];
+        out[end] = digit(byte / 16);
+        out[end + 1] = digit(byte % 16);
+        end += 2;
+        i += 1;
+    }
+    end
+}
+
+// The same, as far as there is room.
+fn put_some_digits(out: &mut [u8], at: usize, bytes: &[u8]) -> usize
     ensures { λ r. ⌜ Adds (hex (now (bytes .entry))) (now (out .entry)) at (now (out .exit)) r ⌝ }
 {
     let mut end = within(at, out);
@@ -90,4 +108,15 @@ pub fn put_hex(out: &mut [u8], at: usize, bytes: &[u8]) -> usize
         i += 1;
     }
     end
+}
+
+// Bytes, two hexadecimal digits each. Where there is room for all, it is tested once and not for each.
+pub fn put_hex(out: &mut [u8], at: usize, bytes: &[u8]) -> usize
+    ensures { λ r. ⌜ Adds (hex (now (bytes .entry))) (now (out .entry)) at (now (out .exit)) r ⌝ }
+{
+    let end = within(at, out);
+    if bytes.len() <= (out.len() - end) / 2 {
+        return put_all_digits(out, end, bytes);
+    }
+    put_some_digits(out, at, bytes)
 }

@@ -1,63 +1,45 @@
--- `text::numerals::put_hex` meets its contract. The loop's invariant: the first i are added.
-use native.Mathlib.Omega.{arith}
-use Prim.Native.Nat.{_-_, _≤_}
-use lib.ListN.{length, take}
+-- `text::numerals::put_hex` meets its contract, with room for all digits and without.
+use Rattle.adding.specs.Laws.{adds-within}
 use borrow.Author.Needs.{needs}
-use Rattle.adding.specs.Added.{Adds, each}
-use Rattle.text.specs.Digits.{twoDigits, hex}
-use Rattle.adding.specs.Laws.{adds-nothing, put-each-more, whole-list}
 use Rattle.text.proofs.numerals.put_hex.Statement.{statement}
 use Rattle.text.proofs.numerals.put_hex.Tie as tie
 
-abbrev Inv-loop : tie.InvT-loop
-Inv-loop out₀ at bytes end₀ i₀ out end i = (i ≤ length bytes) × Adds (hex (take i bytes)) out₀ at out end
-
-abbrev μ-loop : tie.MeasureT-loop
-μ-loop out₀ at bytes end₀ i₀ out end i = length bytes - i
-
-within-requires : tie.Need-within-requires Inv-loop μ-loop
+within-requires : tie.Need-within-requires
 within-requires c κs = search needs
 
-loop-holds : tie.Need-loop-holds Inv-loop μ-loop
-unfolding each
-loop-holds c = search (adds-nothing, needs)
+sub-if1 : tie.Need-sub-if1
+sub-if1 c = search needs
 
-shared-slice-read-put-two-digits : tie.Need-shared-slice-read-put-two-digits Inv-loop μ-loop
-shared-slice-read-put-two-digits c = search needs
+put-all-digits-requires : tie.Need-put-all-digits-requires
+put-all-digits-requires c κs = search needs
 
-put-two-digits-requires : tie.Need-put-two-digits-requires Inv-loop μ-loop
-put-two-digits-requires c κs = search needs
+same-length : tie.Need-same-length
+same-length c = search needs
 
-add-i : tie.Need-add-i Inv-loop μ-loop
-add-i c = search needs
-
-loop-less : tie.Need-loop-less Inv-loop μ-loop
-loop-less c = search needs
-
-loop-again : tie.Need-loop-again Inv-loop μ-loop
-loop-again c =
+returns : tie.Need-returns
+returns c =
     let p = c .before .before in
-    let l = p .before .before .before .before in
-    (omega arith, put-each-more _ _ _ _ _ (l .loop .i) _ _ (omega arith) twoDigits (l .loop .inv .1) (p .put-two-digits .ensures))
+    let w = p .before .before .before in
+    adds-within _ _ _ _ _ _ (w .within .ensures .0) (p .put-all-digits .ensures)
 
-same-length : tie.Need-same-length Inv-loop μ-loop
-same-length c = c .before .loop .inv .1 .room
+put-some-digits-requires : tie.Need-put-some-digits-requires
+put-some-digits-requires c κs = search needs
 
-returns : tie.Need-returns Inv-loop μ-loop
-returns c = search (whole-list hex, needs)
+same-length-2 : tie.Need-same-length-2
+same-length-2 c = search needs
+
+returns-2 : tie.Need-returns-2
+returns-2 c = search needs
 
 pub put-hex-spec : {M : Type 1} → statement M
 put-hex-spec =
     tie.close
     (tie.spec
-    Inv-loop
-    μ-loop
     within-requires
-    loop-holds
-    shared-slice-read-put-two-digits
-    put-two-digits-requires
-    add-i
-    loop-less
-    loop-again
+    sub-if1
+    put-all-digits-requires
     same-length
-    returns)
+    returns
+    put-some-digits-requires
+    same-length-2
+    returns-2)
