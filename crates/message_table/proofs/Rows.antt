@@ -1,24 +1,20 @@
 -- What holds of every id, shown row by row: each law of the table is computed at the nine ids and holds of all others.
-use Prim.Native.Nat.{ℕ, zero, suc, _+_, _^_, _≤_, _<_}
+use Prim.Native.Nat.{ℕ, zero, suc, _+_, _-_, _≤_, _<_}
 use mathlib.Core.Path.{_≡_, refl, ap, sym, subst, _∙_}
 use mathlib.Core.List.{List, [], _∷_}
 use mathlib.Core.Bool.{Bool, true, false, not, _&&_}
-use native.Mathlib.Nat.{add-zero}
-use native.Mathlib.Numerals.{add-one}
 use native.Mathlib.Omega.{arith}
 use lib.Dec.{T, eqb, ltb, leb, ltb→lt, leb→le, lit<, lit≤}
-use lib.ListN.{length, getD, take, drop, drop-of-length-le, length-take, List·getD-eq-default}
-use lib.Seq.{drop-cons, getD-take}
-use mir.Syntax.{Width}
-use mir.Val.{bits, Fits}
-use borrow.Author.Needs.{fits-under}
-use borrow.Author.Tests.{eqb-true, eqb-false, ne-eqb, eq-eqb}
-use Rattle.rules.specs.Limits.{byteValues, itemBytes}
+use lib.ListN.{getD, take, length-take, List·getD-eq-default}
+use lib.Seq.{getD-take}
+use borrow.Author.Tests.{eqb-true, eqb-false, ne-eqb}
+use Rattle.rules.specs.Limits.{itemBytes}
 use Rattle.rules.specs.Payload.{Bytes, numberAt}
 use Rattle.rules.specs.Layouts.{Field, layoutOf, values, currentId, statustextId}
 use Rattle.rules.specs.Messages.{station, unknown, messageOf, decode}
 use Rattle.fields.specs.Numbers.{number-one}
-use Rattle.message_table.specs.Table.{rowIn, rowOf, isRead, targetOf, kindOf, headOf, Owned, ReadAs}
+use Rattle.message_table.specs.Table.{rowOf, fulls, targets, kinds, rowAt, isRead, targetOf, kindOf, headOf, Owned, ReadAs}
+use Rattle.message_table.specs.declared.Row.{Row}
 use Rattle.message_table.specs.declared.Received.{Received}
 use Rattle.message_table.proofs.Numbers.{number-same}
 
@@ -76,29 +72,30 @@ by-row P p41 p42 p43 p44 p45 p47 p51 p73 p253 none id =
     split P 47 id p47 (λ n47. split P 51 id p51 (λ n51. split P 73 id p73 (λ n73. split P 253 id p253 (λ n253.
     none id (outside id n41 n42 n43 n44 n45 n47 n51 n73 n253))))))))))
 
--- ---- the columns of the table in the code: the nine rows, and one for every id that has none
+-- ---- the row of an id
 
-abbrev pub fulls : List ℕ
-fulls = 4 ∷ 18 ∷ 3 ∷ 9 ∷ 3 ∷ 8 ∷ 5 ∷ 38 ∷ 54 ∷ 0 ∷ []
+pub found : (id n : ℕ) (row : Row) → id ≡ n → row ≡ rowAt (rowOf n) → row ≡ rowAt (rowOf id)
+found id n row e is = is ∙ ap (λ (k : ℕ). rowAt (rowOf k)) (sym e)
 
-pub full-row : (id : ℕ) → getD fulls (rowOf id) 0 ≡ layoutOf id .full
+pub missed : (id : ℕ) (row : Row) → (id ≡ 41 → ⊥) → (id ≡ 42 → ⊥) → (id ≡ 43 → ⊥) → (id ≡ 44 → ⊥) → (id ≡ 45 → ⊥) → (id ≡ 47 → ⊥) → (id ≡ 51 → ⊥) → (id ≡ 73 → ⊥) → (id ≡ 253 → ⊥) → row ≡ rowAt 9 → row ≡ rowAt (rowOf id)
+missed id row n41 n42 n43 n44 n45 n47 n51 n73 n253 is = is ∙ ap rowAt (sym (outside id n41 n42 n43 n44 n45 n47 n51 n73 n253 .row))
+
+-- ---- the columns of the table
+
+full-row : (id : ℕ) → getD fulls (rowOf id) 0 ≡ layoutOf id .full
 unfolding rowOf layoutOf
 full-row = by-row (λ id. getD fulls (rowOf id) 0 ≡ layoutOf id .full) refl refl refl refl refl refl refl refl refl (λ id no. rw (no .row, no .full))
 
+pub full-at : (id : ℕ) (row : Row) → row ≡ rowAt (rowOf id) → row .full ≡ layoutOf id .full
+full-at id row e = ap (λ (r : Row). r .full) e ∙ full-row id
+
 -- the test of what is read
-abbrev readBy : (id row : ℕ) → Bool
-readBy id row = ltb row 9 && not (eqb id currentId) && not (eqb id statustextId)
+abbrev readBy : (id : ℕ) → Row → Bool
+readBy id row = row .listed && not (eqb id currentId) && not (eqb id statustextId)
 
-read-row : (id : ℕ) (p : Bytes) → readBy id (rowOf id) ≡ isRead (decode id p)
+read-row : (id : ℕ) (p : Bytes) → readBy id (rowAt (rowOf id)) ≡ isRead (decode id p)
 unfolding rowOf decode messageOf
-read-row id p = by-row (λ id. readBy id (rowOf id) ≡ isRead (decode id p)) refl refl refl refl refl refl refl refl refl (λ id no. rw (no .row, no .message p)) id
-
--- where the field of a column stands in a message: in a byte that is not its own where there is none
-abbrev pub targets : List ℕ
-targets = 2 ∷ 36 ∷ 0 ∷ 2 ∷ 0 ∷ 0 ∷ 2 ∷ 32 ∷ 36 ∷ 36 ∷ []
-
-abbrev pub kinds : List ℕ
-kinds = 36 ∷ 36 ∷ 2 ∷ 4 ∷ 2 ∷ 3 ∷ 4 ∷ 37 ∷ 36 ∷ 36 ∷ []
+read-row id p = by-row (λ id. readBy id (rowAt (rowOf id)) ≡ isRead (decode id p)) refl refl refl refl refl refl refl refl refl (λ id no. rw (no .row, no .message p)) id
 
 not-read : {A : Type 0} → false ≡ true → A
 not-read e = absurd (subst T (sym e) tt)
@@ -141,22 +138,25 @@ kind-row id p b =
     (λ id no own e. not-read (sym (ap isRead (no .message b)) ∙ e))
     id
 
--- each number of a column is that of a byte that is there, and fits a byte
+-- each number of a column is that of a byte that is there
 
 abbrev below : ℕ → List ℕ → Bool
 below limit [] = true
 below limit (n ∷ ns) = ltb n limit && below limit ns
 
-pub all-below : (limit : ℕ) (ns : List ℕ) (k : ℕ) → T (below limit ns) → 0 < limit → getD ns k 0 < limit
+all-below : (limit : ℕ) (ns : List ℕ) (k : ℕ) → T (below limit ns) → 0 < limit → getD ns k 0 < limit
 all-below limit [] k t some = some
 all-below limit (n ∷ ns) zero t some = ltb→lt n limit (left (ltb n limit) (below limit ns) t)
 all-below limit (n ∷ ns) (suc k) t some = all-below limit ns k (right (ltb n limit) (below limit ns) t) some
 
-pub next-below : (limit : ℕ) (ns : List ℕ) (k : ℕ) → T (below limit ns) → 0 < limit → getD ns k 0 + 1 < suc limit
-next-below limit ns k t some = omega (arith, all-below limit ns k t some)
+pub component-there : (id : ℕ) (row : Row) → row ≡ rowAt (rowOf id) → row .target + 1 < itemBytes
+component-there id row e = omega (arith, ap (λ (r : Row). r .target) e, all-below (itemBytes - 1) targets (rowOf id) tt (lit< tt))
 
-pub column-fits : (w : Width) (ns : List ℕ) (k : ℕ) → T (below byteValues ns) → T (leb byteValues (2 ^ bits w)) → Fits w (getD ns k 0)
-column-fits w ns k t wide = fits-under w (getD ns k 0) byteValues (all-below byteValues ns k t (lit< tt)) wide
+pub target-there : (id : ℕ) (row : Row) → row ≡ rowAt (rowOf id) → row .target < itemBytes
+target-there id row e = omega (arith, component-there id row e)
+
+pub kind-there : (id : ℕ) (row : Row) → row ≡ rowAt (rowOf id) → row .kind < itemBytes
+kind-there id row e = omega (arith, ap (λ (r : Row). r .kind) e, all-below itemBytes kinds (rowOf id) tt (lit< tt))
 
 -- ---- a message has all its fields within its full length
 
@@ -202,22 +202,22 @@ decode-own id p b own read =
 
 -- ---- what is received, by the row of an id and the bytes that are its own
 
-abbrev receivedBy : (id row : ℕ) → Bytes → Received
+abbrev receivedBy : (id : ℕ) → Row → Bytes → Received
 receivedBy id row b =
     record {
       read = readBy id row;
-      head = record { system = getD b (getD targets row 0) 0; component = getD b (getD targets row 0 + 1) 0; kind = getD b (getD kinds row 0) 0 };
+      head = record { system = getD b (row .target) 0; component = getD b (row .target + 1) 0; kind = getD b (row .kind) 0 };
       own = b;
     }
 
-pub received : (id row : ℕ) (p b : Bytes) → row ≡ rowOf id → Owned (getD fulls row 0) p b → ReadAs id p (receivedBy id row b)
-received id row p b e = subst (λ (k : ℕ). Owned (getD fulls k 0) p b → ReadAs id p (receivedBy id k b)) (sym e) at-row
+pub received : (id : ℕ) (row : Row) (p b : Bytes) → row ≡ rowAt (rowOf id) → Owned (row .full) p b → ReadAs id p (receivedBy id row b)
+received id row p b e = subst (λ (r : Row). Owned (r .full) p b → ReadAs id p (receivedBy id r b)) (sym e) at-row
   where
-    at-row : Owned (getD fulls (rowOf id) 0) p b → ReadAs id p (receivedBy id (rowOf id) b)
+    at-row : Owned (getD fulls (rowOf id) 0) p b → ReadAs id p (receivedBy id (rowAt (rowOf id)) b)
     at-row part =
         let own : Owned (layoutOf id .full) p b = subst (λ (n : ℕ). Owned n p b) (full-row id) part in
-        let same : readBy id (rowOf id) ≡ true → decode id b ≡ decode id p = λ is. decode-own id p b own (sym (read-row id p) ∙ is) in
-        let read : readBy id (rowOf id) ≡ true → isRead (decode id b) ≡ true = λ is. ap isRead (same is) ∙ sym (read-row id p) ∙ is in
+        let same : readBy id (rowAt (rowOf id)) ≡ true → decode id b ≡ decode id p = λ is. decode-own id p b own (sym (read-row id p) ∙ is) in
+        let read : readBy id (rowAt (rowOf id)) ≡ true → isRead (decode id b) ≡ true = λ is. ap isRead (same is) ∙ sym (read-row id p) ∙ is in
         record {
           read = read-row id p;
           decodes = same;
@@ -226,18 +226,3 @@ received id row p b e = subst (λ (k : ℕ). Owned (getD fulls k 0) p b → Read
               (λ i. record { system = target-row id b (read is) i .system; component = target-row id b (read is) i .component; kind = kind-row id p b own (read is) i })
               ∙ ap headOf (same is);
         }
-
--- ---- a search among the ids, from place k on
-
-pub found : (ns : List ℕ) (k id : ℕ) → k < length ns → getD ns k 0 ≡ id → k + rowIn (drop k ns) id ≡ k
-found ns k id h e =
-    let here : eqb (getD ns k 0) id ≡ true = eq-eqb (getD ns k 0) id e in
-    rw (drop-cons ns k 0, here) (add-zero k)
-
-pub passed : (ns : List ℕ) (k id : ℕ) → k < length ns → (getD ns k 0 ≡ id → ⊥) → k + rowIn (drop k ns) id ≡ k + 1 + rowIn (drop (k + 1) ns) id
-passed ns k id h n =
-    let here : eqb (getD ns k 0) id ≡ false = ne-eqb (getD ns k 0) id n in
-    rw (drop-cons ns k 0, here, add-one) (omega arith)
-
-pub past : (ns : List ℕ) (k id : ℕ) → length ns ≤ k → k + rowIn (drop k ns) id ≡ k
-past ns k id h = rw (drop-of-length-le ns h) (add-zero k)

@@ -1,13 +1,14 @@
 -- A message's row in the table of layouts, what the table's other columns say: read here or not, target, kind; and a payload as it is read.
 use Prim.Native.Nat.{ℕ, suc, _<_}
 use mathlib.Core.Path.{_≡_}
-use mathlib.Core.List.{List, [], _∷_, map}
+use mathlib.Core.List.{List, [], _∷_, _++_, map}
 use mathlib.Core.Bool.{Bool, true, false, cond}
-use lib.Dec.{eqb}
-use lib.ListN.{getD, take}
+use lib.Dec.{eqb, ltb}
+use lib.ListN.{length, getD, take}
 use Rattle.rules.specs.Limits.{flight, itemBytes}
 use Rattle.rules.specs.Payload.{Bytes}
 use Rattle.rules.specs.Layouts.{Layout, layouts}
+use Rattle.message_table.specs.declared.Row.{Row}
 use Rattle.message_table.specs.declared.Head.{Head}
 use Rattle.message_table.specs.declared.Received.{Received}
 use Rattle.rules.specs.Messages.{decode, Station, station, Message, setCurrent, current, requestList, count, clearAll, ack, requestInt, itemInt, statustext, unknown}
@@ -22,6 +23,20 @@ rowIn (n ∷ ns) id = cond (eqb n id) 0 (suc (rowIn ns id))
 
 unfoldable pub rowOf : ℕ → ℕ
 rowOf id = rowIn ids id
+
+-- the columns of the table: of each layout a number, and one for every id that has none
+abbrev pub fulls : List ℕ
+fulls = map (λ (l : Layout). l .full) layouts ++ (0 ∷ [])
+
+-- where the target's system stands, and the kind; 36 where there is no such field: of messages that are read only in SET_CURRENT, whose bytes end before it
+abbrev pub targets : List ℕ
+targets = 2 ∷ 36 ∷ 0 ∷ 2 ∷ 0 ∷ 0 ∷ 2 ∷ 32 ∷ 36 ∷ 36 ∷ []
+
+abbrev pub kinds : List ℕ
+kinds = 36 ∷ 36 ∷ 2 ∷ 4 ∷ 2 ∷ 3 ∷ 4 ∷ 37 ∷ 36 ∷ 36 ∷ []
+
+abbrev pub rowAt : ℕ → Row
+rowAt k = record { full = getD fulls k 0; target = getD targets k 0; kind = getD kinds k 0; listed = ltb k (length ids) }
 
 -- "Ids 42 and 253 are only written."
 abbrev pub isRead : Message → Bool

@@ -2,7 +2,7 @@
 ghost use mathlib.Core.Path.{_≡_};
 ghost use Prim.Native.Nat.{_<_, min};
 ghost use Rattle.rules.specs.Layouts.{layoutOf};
-ghost use Rattle.message_table.specs.Table.{rowOf, Owned, ReadAs};
+ghost use Rattle.message_table.specs.Table.{rowOf, rowAt, Owned, ReadAs};
 use limits::ITEM_BYTES;
 
 pub const SET_CURRENT_ID: u32 = 41;
@@ -46,25 +46,65 @@ const TARGETS: [u8; 10] = [2, NONE, 0, 2, 0, 0, 2, 32, NONE, NONE];
 
 const KINDS: [u8; 10] = [NONE, NONE, 2, 4, 2, 3, 4, 37, NONE, NONE];
 
-// The row of an id, 9 where it has none.
-fn row_of(id: u32) -> usize
-    ensures { λ r. ⌜ (r ≡ rowOf id) × (r < 10) ⌝ }
+// What the columns hold at a row, and whether it is that of an id in the table.
+struct Row {
+    full: u8,
+    target: u8,
+    kind: u8,
+    listed: bool,
+}
+
+fn row_at(row: usize) -> Row
+    requires { ⌜ row < 10 ⌝ }
+    ensures { λ r. ⌜ r ≡ rowAt row ⌝ }
 {
-    let mut row = 0;
-    while row < 9 {
-        if IDS[row] as u32 == id {
-            return row;
-        }
-        row += 1;
+    Row {
+        full: FULLS[row],
+        target: TARGETS[row],
+        kind: KINDS[row],
+        listed: row < 9,
     }
-    row
+}
+
+// The row of an id. Rows are named by constants: so what they hold is constant too, and no column is laid out in memory to be read at a variable place.
+fn row_of(id: u32) -> Row
+    ensures { λ r. ⌜ r ≡ rowAt (rowOf id) ⌝ }
+{
+    if id == IDS[0] as u32 {
+        return row_at(0);
+    }
+    if id == IDS[1] as u32 {
+        return row_at(1);
+    }
+    if id == IDS[2] as u32 {
+        return row_at(2);
+    }
+    if id == IDS[3] as u32 {
+        return row_at(3);
+    }
+    if id == IDS[4] as u32 {
+        return row_at(4);
+    }
+    if id == IDS[5] as u32 {
+        return row_at(5);
+    }
+    if id == IDS[6] as u32 {
+        return row_at(6);
+    }
+    if id == IDS[7] as u32 {
+        return row_at(7);
+    }
+    if id == IDS[8] as u32 {
+        return row_at(8);
+    }
+    row_at(9)
 }
 
 // The full length of a message, 0 where the id is not in the table.
 pub fn full_of(id: u32) -> usize
     ensures { λ r. ⌜ r ≡ layoutOf id .full ⌝ }
 {
-    FULLS[row_of(id)] as usize
+    row_of(id).full as usize
 }
 
 // The longest message that is read here is ITEM_INT.
@@ -104,14 +144,14 @@ pub fn receive(id: u32, payload: &[u8]) -> Received
     ensures { λ r. ⌜ ReadAs id (now (payload .entry)) r ⌝ }
 {
     let row = row_of(id);
-    let own = own_bytes(FULLS[row] as usize, payload);
-    let target = TARGETS[row] as usize;
+    let own = own_bytes(row.full as usize, payload);
+    let target = row.target as usize;
     let head = Head {
         system: own[target],
         component: own[target + 1],
-        kind: own[KINDS[row] as usize],
+        kind: own[row.kind as usize],
     };
     // CURRENT and STATUSTEXT are only written.
-    let read = (row < 9) & (id != CURRENT_ID) & (id != STATUSTEXT_ID);
+    let read = row.listed & (id != CURRENT_ID) & (id != STATUSTEXT_ID);
     Received { read, head, own }
 }

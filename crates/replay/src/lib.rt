@@ -73,12 +73,16 @@ fn tell(told: &mut [u8], at: usize, outcome: u8, id: u32, len: usize, reply: &[u
 pub extern "C" fn douzanelh_replay(calls: &[u8], store: &mut [u8], told: &mut [u8]) -> u64 {
     let mut reply_array = [0u8; REPLY_ARRAY];
     let reply: &mut [u8] = &mut reply_array;
-    let mut state = service::fresh();
+    // The state before a call and the state after it stand in two places in turn.
+    let first = service::fresh();
+    let mut states = [first; 2];
+    let mut which: usize = 0;
     let mut sum: u64 = 0;
     let mut at: usize = 0;
     while SLOT <= calls.len() - at {
         let end = at + SLOT;
         let slot = &calls[at..end];
+        let state = states[which];
         let served = if byte(slot, 0) == MESSAGE {
             service::message(
                 state,
@@ -97,7 +101,9 @@ pub extern "C" fn douzanelh_replay(calls: &[u8], store: &mut [u8], told: &mut [u
         };
         tell(told, at, served.outcome, served.id, served.len, reply);
         sum = std::num::wrapping_add_u64(sum, total(served.outcome, served.id, served.len));
-        state = served.state;
+        which = 1 - which;
+        let after = served.state;
+        states[which] = after;
         at = end;
     }
     sum

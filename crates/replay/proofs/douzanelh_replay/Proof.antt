@@ -1,6 +1,6 @@
--- `replay::douzanelh_replay` meets its contract: slots lie within the list, and the lent slices keep their lengths.
+-- `replay::douzanelh_replay` meets its contract: slots lie within the list, the lent slices keep their lengths, and the state stands in one of two places.
 use Prim.Native.Nat.{ℕ, _-_, _≤_}
-use mathlib.Core.Path.{_≡_, ap}
+use mathlib.Core.Path.{_≡_, ap, _∙_}
 use mathlib.Core.List.{List}
 use mathlib.Core.Logic.{⊎-elim}
 use native.Mathlib.Omega.{arith}
@@ -10,11 +10,11 @@ use Rattle.replay.proofs.douzanelh_replay.Statement.{statement}
 use Rattle.replay.proofs.douzanelh_replay.Tie as tie
 
 abbrev Inv-loop : tie.InvT-loop
-Inv-loop calls store₀ told₀ reply₀ state₀ sum₀ at₀ store told reply state sum at =
-    (at ≤ length calls) × (length store ≡ length store₀) × (length told ≡ length told₀)
+Inv-loop calls store₀ told₀ reply₀ states₀ which₀ sum₀ at₀ store told reply states which sum at =
+    (at ≤ length calls) × (length store ≡ length store₀) × (length told ≡ length told₀) × (which ≤ 1)
 
 abbrev μ-loop : tie.MeasureT-loop
-μ-loop calls store₀ told₀ reply₀ state₀ sum₀ at₀ store told reply state sum at =
+μ-loop calls store₀ told₀ reply₀ states₀ which₀ sum₀ at₀ store told reply states which sum at =
     length calls - at
 
 slice-aggregate-reply : tie.Need-slice-aggregate-reply Inv-loop μ-loop
@@ -40,6 +40,12 @@ part-slot-start c = search needs
 
 part-slot-end : tie.Need-part-slot-end Inv-loop μ-loop
 part-slot-end c = search needs
+
+mul-state : tie.Need-mul-state Inv-loop μ-loop
+mul-state c = search needs
+
+array-copy-out-state : tie.Need-array-copy-out-state Inv-loop μ-loop
+array-copy-out-state c = search needs
 
 byte-requires : tie.Need-byte-requires Inv-loop μ-loop
 byte-requires c κs = tt
@@ -86,6 +92,15 @@ total-requires c κs = tt
 wrapping-add-u64-requires : tie.Need-wrapping-add-u64-requires Inv-loop μ-loop
 wrapping-add-u64-requires c κs = tt
 
+sub-which : tie.Need-sub-which Inv-loop μ-loop
+sub-which c = search needs
+
+mul-states : tie.Need-mul-states Inv-loop μ-loop
+mul-states c = search needs
+
+array-set-from-states : tie.Need-array-set-from-states Inv-loop μ-loop
+array-set-from-states c = search needs
+
 loop-less : tie.Need-loop-less Inv-loop μ-loop
 loop-less c = search needs
 
@@ -94,10 +109,12 @@ long l = length l
 
 loop-again : tie.Need-loop-again Inv-loop μ-loop
 loop-again c =
-    let joined = c .before .before .before .before .before .before .before .before in (
+    let joined = c .before .before .before .before .before .before .before .before in
+    let at-loop = joined .before .before .before .before .before in (
       omega arith,
-      ⊎-elim (λ w. omega (arith, ap long (w .15))) (λ w. omega (arith, ap long (w .8))) (joined .if1 .came),
+      ⊎-elim (λ w. ap long (w .15) ∙ w .11 .given ∙ at-loop .loop .inv .1) (λ w. omega (arith, ap long (w .8))) (joined .if1 .came),
       search needs,
+      omega arith,
     )
 
 same-length : tie.Need-same-length Inv-loop μ-loop
@@ -123,6 +140,8 @@ douzanelh-replay-spec =
     sub-slot
     part-slot-start
     part-slot-end
+    mul-state
+    array-copy-out-state
     byte-requires
     byte-requires-2
     byte-requires-3
@@ -138,6 +157,9 @@ douzanelh-replay-spec =
     tell-requires
     total-requires
     wrapping-add-u64-requires
+    sub-which
+    mul-states
+    array-set-from-states
     loop-less
     loop-again
     same-length
