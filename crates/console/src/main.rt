@@ -25,7 +25,10 @@ fn main() {
     let out: &mut [u8] = &mut out_array;
     let mut store = [0u8; STORE_ARRAY];
     let mut copy = [0u8; STORE_ARRAY];
-    let mut state = service::fresh();
+    // The state before a record and the state after it stand in two places in turn.
+    let first = service::fresh();
+    let mut states = [first; 2];
+    let mut which: usize = 0;
     let mut unread = Unread { at: 0, end: 0 };
     let mut at: usize = 0;
     let mut turns = u64::MAX;
@@ -37,9 +40,31 @@ fn main() {
         at = lines::put_stop(out, at, next);
         match next {
             Next::Play(r) => {
-                let played = play::record(r, bytes, out, at, &mut store, &mut copy, state);
-                state = played.state;
-                at = played.at;
+                let payload = text::part(bytes, HEADER_BYTES, r.len);
+                let state = states[which];
+                which = 1 - which;
+                // The calls that come often put the state after them into its place by themselves, so that it is moved as a whole.
+                let kind = r.kind;
+                match kind {
+                    script::MESSAGE => {
+                        let played = play::message(r, payload, out, at, &mut store, state);
+                        let after = played.state;
+                        states[which] = after;
+                        at = played.at;
+                    }
+                    script::TIMER => {
+                        let played = play::timer(r, out, at, &store, state);
+                        let after = played.state;
+                        states[which] = after;
+                        at = played.at;
+                    }
+                    _ => {
+                        let played = play::other(r, payload, out, at, &mut store, &mut copy, state);
+                        let after = played.state;
+                        states[which] = after;
+                        at = played.at;
+                    }
+                }
                 unread = play::past(unread, r);
             }
             _ => {

@@ -19,7 +19,7 @@ fn front(bytes: &mut [u8], n: usize) -> &mut [u8] {
     &mut bytes[..end]
 }
 
-fn message(
+fn deliver(
     r: Record,
     payload: &[u8],
     out: &mut [u8],
@@ -45,7 +45,24 @@ fn message(
     Played { state, at }
 }
 
-fn timer(r: Record, out: &mut [u8], at: usize, store: &[u8], state: State) -> Played {
+pub fn message(
+    r: Record,
+    payload: &[u8],
+    out: &mut [u8],
+    at: usize,
+    store: &mut [u8; STORE_ARRAY],
+    state: State,
+) -> Played {
+    deliver(r, payload, out, at, store, state)
+}
+
+pub fn timer(
+    r: Record,
+    out: &mut [u8],
+    at: usize,
+    store: &[u8; STORE_ARRAY],
+    state: State,
+) -> Played {
     let mut reply = [REPLY_FILL; REPLY_ARRAY];
     let lent: &mut [u8] = &mut reply;
     let reply_end = text::within(r.reply, lent);
@@ -96,21 +113,18 @@ fn between(
     }
 }
 
-// Plays the record that bytes begin with.
-pub fn record(
+// Plays a record that is neither a message call nor a timer call.
+pub fn other(
     r: Record,
-    bytes: &[u8],
+    payload: &[u8],
     out: &mut [u8],
     at: usize,
     store: &mut [u8; STORE_ARRAY],
     copy: &mut [u8; STORE_ARRAY],
     state: State,
 ) -> Played {
-    let payload = text::part(bytes, HEADER_BYTES, r.len);
     let kind = r.kind;
     match kind {
-        script::MESSAGE => message(r, payload, out, at, store, state),
-        script::TIMER => timer(r, out, at, store, state),
         script::DONE => done(r, out, at, store, state),
         script::DUMP => {
             let at = dump::put_dump(out, at, state, store);
