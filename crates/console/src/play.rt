@@ -19,6 +19,7 @@ fn front(bytes: &mut [u8], n: usize) -> &mut [u8] {
     &mut bytes[..end]
 }
 
+// A message call, which is lent a front part of a slice.
 fn deliver(
     r: Record,
     payload: &[u8],
@@ -45,6 +46,7 @@ fn deliver(
     Played { state, at }
 }
 
+// The same of the store's array: of an array behind a reference no part can be lent, of a slice it can.
 pub fn message(
     r: Record,
     payload: &[u8],

@@ -5,7 +5,7 @@ use mathlib.Core.List.{List, [], _∷_}
 use mathlib.Core.Bool.{Bool, true, false, not, _&&_}
 use native.Mathlib.Omega.{arith}
 use lib.Dec.{T, eqb, ltb, leb, ltb→lt, leb→le, lit<, lit≤}
-use lib.ListN.{getD, take, length-take, List·getD-eq-default}
+use lib.ListN.{length, getD, take, length-take, List·getD-eq-default}
 use lib.Seq.{getD-take}
 use borrow.Author.Tests.{eqb-true, eqb-false, ne-eqb}
 use Rattle.rules.specs.Limits.{itemBytes}
@@ -13,7 +13,7 @@ use Rattle.rules.specs.Payload.{Bytes, numberAt}
 use Rattle.rules.specs.Layouts.{Field, layoutOf, values, currentId, statustextId}
 use Rattle.rules.specs.Messages.{station, unknown, messageOf, decode}
 use Rattle.fields.specs.Numbers.{number-one}
-use Rattle.message_table.specs.Table.{rowOf, fulls, targets, kinds, rowAt, isRead, targetOf, kindOf, headOf, Owned, ReadAs}
+use Rattle.message_table.specs.Table.{ids, rowOf, fulls, none, targets, kinds, rowAt, isRead, targetOf, kindOf, headOf, Owned, ReadAs}
 use Rattle.message_table.specs.declared.Row.{Row}
 use Rattle.message_table.specs.declared.Received.{Received}
 use Rattle.message_table.proofs.Numbers.{number-same}
@@ -39,7 +39,7 @@ other k id n = ne-eqb k id (λ e. n (sym e))
 
 -- what is known of an id that has no row
 record NoRow (id : ℕ) : Type 0 where
-  pub row : rowOf id ≡ 9
+  pub row : rowOf id ≡ length ids
   pub full : layoutOf id .full ≡ 0
   pub fields : layoutOf id .fields ≡ []
   pub message : (p : Bytes) → decode id p ≡ unknown
@@ -77,7 +77,7 @@ by-row P p41 p42 p43 p44 p45 p47 p51 p73 p253 none id =
 pub found : (id n : ℕ) (row : Row) → id ≡ n → row ≡ rowAt (rowOf n) → row ≡ rowAt (rowOf id)
 found id n row e is = is ∙ ap (λ (k : ℕ). rowAt (rowOf k)) (sym e)
 
-pub missed : (id : ℕ) (row : Row) → (id ≡ 41 → ⊥) → (id ≡ 42 → ⊥) → (id ≡ 43 → ⊥) → (id ≡ 44 → ⊥) → (id ≡ 45 → ⊥) → (id ≡ 47 → ⊥) → (id ≡ 51 → ⊥) → (id ≡ 73 → ⊥) → (id ≡ 253 → ⊥) → row ≡ rowAt 9 → row ≡ rowAt (rowOf id)
+pub missed : (id : ℕ) (row : Row) → (id ≡ 41 → ⊥) → (id ≡ 42 → ⊥) → (id ≡ 43 → ⊥) → (id ≡ 44 → ⊥) → (id ≡ 45 → ⊥) → (id ≡ 47 → ⊥) → (id ≡ 51 → ⊥) → (id ≡ 73 → ⊥) → (id ≡ 253 → ⊥) → row ≡ rowAt (length ids) → row ≡ rowAt (rowOf id)
 missed id row n41 n42 n43 n44 n45 n47 n51 n73 n253 is = is ∙ ap rowAt (sym (outside id n41 n42 n43 n44 n45 n47 n51 n73 n253 .row))
 
 -- ---- the columns of the table
@@ -126,7 +126,7 @@ kind-row : (id : ℕ) (p b : Bytes) → Owned (layoutOf id .full) p b → isRead
 unfolding rowOf layoutOf decode messageOf values
 kind-row id p b =
     by-row (λ id. Owned (layoutOf id .full) p b → isRead (decode id b) ≡ true → getD b (getD kinds (rowOf id) 0) 0 ≡ kindOf (decode id b))
-    (λ own e. own .byte 36 (lit< tt) ∙ List·getD-eq-default (take 4 p) 0 (omega (arith, length-take 4 p)))
+    (λ own e. own .byte none (lit< tt) ∙ List·getD-eq-default (take 4 p) 0 (omega (arith, length-take 4 p)))
     (λ own e. not-read e)
     (λ own e. sym (number-one 2 b))
     (λ own e. sym (number-one 4 b))

@@ -28,12 +28,16 @@ rowOf id = rowIn ids id
 abbrev pub fulls : List ℕ
 fulls = map (λ (l : Layout). l .full) layouts ++ (0 ∷ [])
 
--- where the target's system stands, and the kind; 36 where there is no such field: of messages that are read only in SET_CURRENT, whose bytes end before it
+-- where there is no such field: of messages that are read only in SET_CURRENT, which has no kind, and whose bytes end before it
+abbrev pub none : ℕ
+none = 36
+
+-- where the target's system stands, and the kind
 abbrev pub targets : List ℕ
-targets = 2 ∷ 36 ∷ 0 ∷ 2 ∷ 0 ∷ 0 ∷ 2 ∷ 32 ∷ 36 ∷ 36 ∷ []
+targets = 2 ∷ none ∷ 0 ∷ 2 ∷ 0 ∷ 0 ∷ 2 ∷ 32 ∷ none ∷ none ∷ []
 
 abbrev pub kinds : List ℕ
-kinds = 36 ∷ 36 ∷ 2 ∷ 4 ∷ 2 ∷ 3 ∷ 4 ∷ 37 ∷ 36 ∷ 36 ∷ []
+kinds = none ∷ none ∷ 2 ∷ 4 ∷ 2 ∷ 3 ∷ 4 ∷ 37 ∷ none ∷ none ∷ []
 
 abbrev pub rowAt : ℕ → Row
 rowAt k = record { full = getD fulls k 0; target = getD targets k 0; kind = getD kinds k 0; listed = ltb k (length ids) }

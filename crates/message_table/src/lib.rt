@@ -1,8 +1,9 @@
 // The constant table of messages: ids, full lengths, and where target system, component and kind stand; and a payload as it is read by it.
 ghost use mathlib.Core.Path.{_≡_};
 ghost use Prim.Native.Nat.{_<_, min};
+ghost use lib.ListN.{length};
 ghost use Rattle.rules.specs.Layouts.{layoutOf};
-ghost use Rattle.message_table.specs.Table.{rowOf, rowAt, Owned, ReadAs};
+ghost use Rattle.message_table.specs.Table.{rowOf, fulls, rowAt, Owned, ReadAs};
 use limits::ITEM_BYTES;
 
 pub const SET_CURRENT_ID: u32 = 41;
@@ -23,8 +24,12 @@ pub const ITEM_INT_ID: u32 = 73;
 
 pub const STATUSTEXT_ID: u32 = 253;
 
-// The rows of the table, in this order.
-const IDS: [u8; 9] = [
+// The table has a row for each message, and one more for every id that is not in it.
+const MESSAGES: usize = 9;
+
+const ROWS: usize = MESSAGES + 1;
+
+const IDS: [u8; MESSAGES] = [
     SET_CURRENT_ID as u8,
     CURRENT_ID as u8,
     REQUEST_LIST_ID as u8,
@@ -35,16 +40,16 @@ const IDS: [u8; 9] = [
     ITEM_INT_ID as u8,
     STATUSTEXT_ID as u8,
 ];
-// One number more in each column: that of every id that is not in the table.
-const FULLS: [u8; 10] = [4, 18, 3, 9, 3, 8, 5, 38, 54, 0];
+
+const FULLS: [u8; ROWS] = [4, 18, 3, 9, 3, 8, 5, 38, 54, 0];
 
 // A message without the field has NONE: of those that are read only SET_CURRENT, which has no kind, and whose bytes end before it.
 const NONE: u8 = 36;
 
 // Where the target's system stands, its component behind it, and the kind.
-const TARGETS: [u8; 10] = [2, NONE, 0, 2, 0, 0, 2, 32, NONE, NONE];
+const TARGETS: [u8; ROWS] = [2, NONE, 0, 2, 0, 0, 2, 32, NONE, NONE];
 
-const KINDS: [u8; 10] = [NONE, NONE, 2, 4, 2, 3, 4, 37, NONE, NONE];
+const KINDS: [u8; ROWS] = [NONE, NONE, 2, 4, 2, 3, 4, 37, NONE, NONE];
 
 // What the columns hold at a row, and whether it is that of an id in the table.
 struct Row {
@@ -55,14 +60,14 @@ struct Row {
 }
 
 fn row_at(row: usize) -> Row
-    requires { ⌜ row < 10 ⌝ }
+    requires { ⌜ row < length fulls ⌝ }
     ensures { λ r. ⌜ r ≡ rowAt row ⌝ }
 {
     Row {
         full: FULLS[row],
         target: TARGETS[row],
         kind: KINDS[row],
-        listed: row < 9,
+        listed: row < MESSAGES,
     }
 }
 
@@ -97,7 +102,7 @@ fn row_of(id: u32) -> Row
     if id == IDS[8] as u32 {
         return row_at(8);
     }
-    row_at(9)
+    row_at(MESSAGES)
 }
 
 // The full length of a message, 0 where the id is not in the table.

@@ -33,7 +33,7 @@ use Rattle.plan.specs.View.{emptyPlan, planOf, view, stationIn}
 use Rattle.upload.specs.declared.Effect.{Effect}
 use Rattle.upload.specs.declared.Effect.the-variants.{Nothing, Turns, Renews, EmptiesAll, Chooses}
 use Rattle.upload.specs.declared.Turned.{Turned}
-use Rattle.upload.specs.Turns.{withUpload, ended, emptied, started, oneMore, askedAgain, othersUpload, ownUpload, countTurned, ackTurned, timerTurned, TurnAndStore, validItemTurned, itemVerdict, itemTurned, stored}
+use Rattle.upload.specs.Turns.{withUpload, ended, emptied, replaced, started, oneMore, askedAgain, othersUpload, ownUpload, countTurned, ackTurned, timerTurned, TurnAndStore, validItemTurned, itemVerdict, itemTurned, stored}
 use Rattle.upload.specs.Effects.{turnedState, renewedState, emptiedState, applied}
 use Rattle.shown.specs.Shown.{chooseEffect}
 use Rattle.protocol.specs.Doing.{Done, othersAmong, clearEffect, clearDone, planDone, knownDone, messageDone, timerDone}
@@ -105,7 +105,7 @@ module _ (k : ℕ) (known : isKnown k ≡ true) (p : Plan) where
       either TurnOk (ltb (elapsed now (r .started)) expiryMs) (λ t. tt)
       (λ t. either TurnOk (ltb (r .repeats) maxRepeats) (λ t. runs-ok (askedAgain r now)) (λ t. ended-ok))
 
-  replaced-ok : (n : ℕ) → (isKnown k ≡ true) × HalfOk p (record { len = n; half = not (p .half); number = nextNumber (p .number); upload = Idle })
+  replaced-ok : (n : ℕ) → (isKnown k ≡ true) × HalfOk p (replaced p n)
   replaced-ok n = (known, ap (λ (t : Bool). cond t (p .half) (not (p .half))) (sym (next-moves (p .number))))
 
   abbrev StoredTurnOk : TurnAndStore → Type 0
