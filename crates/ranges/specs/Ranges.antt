@@ -1,5 +1,5 @@
 -- The ranges of outcome 15 over a state alone; `ranged-view` has them as the rules' own.
-use mathlib.Core.Path.{_≡_, refl}
+use mathlib.Core.Path.{_≡_, refl, sym, _∙_}
 use mathlib.Core.List.{List}
 use mathlib.Core.Bool.{Bool, true, _&&_, _||_, and-true, and-assoc}
 use Prim.Native.Nat.{ℕ}
@@ -39,14 +39,16 @@ plansRanged p q r = planRanged (sizeOf flight) p && planRanged (sizeOf fence) q 
 abbrev pub allRanged : (flight fence rally : Plan) (current : ℕ) (counts : List ℕ) → Bool
 allRanged p q r current counts = plansRanged p q r && (ltb current (p .len) || eqb current 0) && countsRanged counts
 
-unfoldable pub stateRanged : State → Bool
-stateRanged st = allRanged (planOf st flight) (planOf st fence) (planOf st rally) (st .current) (st .counts)
-
 upload-ranged : (store : Bytes) (half : Bool) (kind : ℕ) (u : Upload) → uploadInRange kind (uploadIn store half kind u) ≡ uploadRanged (sizeOf kind) u
 unfolding uploadInRange uploadIn
 upload-ranged store half kind Idle = refl
 upload-ranged store half kind (Running r) = simp length-items
 
-pub ranged-view : (st : State) (store : Bytes) → inRange (view st store) ≡ stateRanged st
-unfolding inRange view stateRanged planRanged countsRanged
+pub ranged-view : (st : State) (store : Bytes) → inRange (view st store) ≡ allRanged (planOf st flight) (planOf st fence) (planOf st rally) (st .current) (st .counts)
+unfolding inRange view planRanged countsRanged
 ranged-view st store = simp (length-items, upload-ranged, and-true, and-assoc)
+
+-- a test of a state's numbers is the rules' own of what it shows
+pub in-range : (st : State) (store : Bytes) (ranged : Bool) → ranged ≡ allRanged (planOf st flight) (planOf st fence) (planOf st rally) (st .current) (st .counts)
+    → ranged ≡ inRange (view st store)
+in-range st store ranged e = e ∙ sym (ranged-view st store)

@@ -31,7 +31,7 @@ use Rattle.plan.specs.declared.Upload.{Upload}
 use Rattle.plan.specs.declared.Upload.the-variants.{Idle, Running}
 use Rattle.places.specs.Places.{itemsIn}
 use Rattle.plan.specs.View.{emptyPlan, planOf, view, freshState}
-use Rattle.ranges.specs.Ranges.{plansRanged, allRanged, stateRanged, ranged-view}
+use Rattle.ranges.specs.Ranges.{plansRanged, allRanged, in-range}
 use Rattle.ranges.specs.Ranged.{plans-ranged, flight-length, current-below}
 use Rattle.refusal.specs.Refusals.{refusalOf, requestOf, HeadRead, HeardMessage, HeardTimer, HeardDone, message-heard, timer-heard, done-heard}
 use Rattle.upload.specs.declared.Turned.{Turned}
@@ -83,11 +83,6 @@ all-emptied [] three current begun counts = absurd (omega arith)
 all-emptied (a ∷ []) three current begun counts = absurd (omega arith)
 all-emptied (a ∷ b ∷ []) three current begun counts = absurd (omega arith)
 all-emptied (a ∷ b ∷ c ∷ d ∷ l) three current begun counts = absurd (omega arith)
-
--- the test of the ranges is the rules' own
-in-range : (st : State) (s : Bytes) (ranged : Bool) → ranged ≡ allRanged (planOf st flight) (planOf st fence) (planOf st rally) (st .current) (st .counts) → ranged ≡ inRange (view st s)
-unfolding stateRanged
-in-range st s ranged e = e ∙ sym (ranged-view st s)
 
 -- the result of a message or a timer call: this state, and what was said
 abbrev served : State → Handled → Served

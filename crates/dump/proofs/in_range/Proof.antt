@@ -1,19 +1,8 @@
 -- The ranges of the state's numbers are the rules' ranges of what it shows.
-use mathlib.Core.Path.{_≡_, sym, _∙_}
-use mathlib.Core.Bool.{Bool}
-use Rattle.rules.specs.Limits.{flight, fence, rally}
-use Rattle.rules.specs.Payload.{Bytes}
-use Rattle.rules.specs.Model.{inRange}
-use Rattle.plan.specs.declared.State.{State}
-use Rattle.plan.specs.View.{planOf, view}
-use Rattle.ranges.specs.Ranges.{allRanged, stateRanged, ranged-view}
+use Rattle.ranges.specs.Ranges.{in-range}
 use borrow.Author.Needs.{needs}
 use Rattle.dump.proofs.in_range.Statement.{statement}
 use Rattle.dump.proofs.in_range.Tie as tie
-
-shown : (st : State) (r : Bool) → r ≡ allRanged (planOf st flight) (planOf st fence) (planOf st rally) (st .current) (st .counts) → (store : Bytes) → r ≡ inRange (view st store)
-unfolding stateRanged
-shown st r e store = e ∙ sym (ranged-view st store)
 
 element-copy-out-flight : tie.Need-element-copy-out-flight
 element-copy-out-flight c = search needs
@@ -28,7 +17,7 @@ ranged-requires : tie.Need-ranged-requires
 ranged-requires c κs = search needs
 
 returns : tie.Need-returns
-returns c store = search (shown, needs)
+returns c store = search (in-range, needs)
 
 pub in-range-spec : {M : Type 1} → statement M
 in-range-spec =

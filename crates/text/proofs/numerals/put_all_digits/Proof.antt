@@ -1,6 +1,5 @@
 -- `text::numerals::put_all_digits` meets its contract. The loop's invariant: the digits of the first i are added, and there is room for the others'.
 use Prim.Native.Nat.{_+_, _*_, _-_, _<_, _≤_}
-use mathlib.Core.Path.{_≡_}
 use native.Mathlib.Omega.{arith}
 use lib.ListN.{length, set, take, length-set}
 use borrow.Author.Needs.{needs}
