@@ -9,7 +9,7 @@ use borrow.Author.Tests.{eq-eqb, ne-eqb, lt-ltb, le-ltb, leb-true, leb-false, le
 use Rattle.rules.specs.Payload.{Bytes}
 use Rattle.script.specs.declared.Record.{Record}
 use Rattle.script.specs.declared.Next.the-variants.{Play, End, Cut, Bad}
-use Rattle.script.specs.Records.{recordIn, writeFits, fits, nextIn}
+use Rattle.script.specs.Records.{oldArray, recordIn, bytesFit, fits, nextIn}
 
 module _ (p : Bytes) where
   pub ends : length p ≡ 0 → End ≡ nextIn p
@@ -42,17 +42,17 @@ module _ (p : Bytes) where
           plays long =
               rw (ne-eqb (length p) 0 some, le-ltb (length p) 24 whole, ← is, ne-eqb (r .kind) 0 other, ← tests, h, le-ltb (length p) (24 + r .len) (omega arith))
 
--- the test of a write
+-- the test of bytes
 
 module _ (at len : ℕ) where
-  pub too-long : 300 < len → false ≡ writeFits at len
-  unfolding writeFits
-  too-long h = rw (lt-leb len 300 h)
+  pub too-long : oldArray < len → false ≡ bytesFit at len
+  unfolding bytesFit
+  too-long h = rw (lt-leb (at + len) oldArray (omega arith))
 
-  pub place-fits : len ≤ 300 → leb at (26880 - len) ≡ writeFits at len
-  unfolding writeFits
-  place-fits h = rw (le-leb len 300 h) (go (leb at (26880 - len)) refl)
+  pub place-fits : len ≤ oldArray → leb at (oldArray - len) ≡ bytesFit at len
+  unfolding bytesFit
+  place-fits h = go (leb at (oldArray - len)) refl
     where
-      go : (t : Bool) → leb at (26880 - len) ≡ t → leb at (26880 - len) ≡ leb (at + len) 26880
-      go true e = e ∙ sym (le-leb (at + len) 26880 (omega (arith, leb-true at (26880 - len) e)))
-      go false e = e ∙ sym (lt-leb (at + len) 26880 (omega (arith, leb-false at (26880 - len) e)))
+      go : (t : Bool) → leb at (oldArray - len) ≡ t → leb at (oldArray - len) ≡ leb (at + len) oldArray
+      go true e = e ∙ sym (le-leb (at + len) oldArray (omega (arith, leb-true at (oldArray - len) e)))
+      go false e = e ∙ sym (lt-leb (at + len) oldArray (omega (arith, leb-false at (oldArray - len) e)))

@@ -1,10 +1,10 @@
 -- Records of a call script, and when one can be played. "A script is a row of records. Each record is a header of exactly 24 bytes and then
 -- `len` payload bytes. All numbers are little-endian and unsigned."
-use Prim.Native.Nat.{ℕ, _+_}
+use Prim.Native.Nat.{ℕ, _+_, _/_, _%_}
 use mathlib.Core.Bool.{Bool, not, _&&_, _||_, cond}
 use lib.Dec.{eqb, ltb, leb}
 use lib.ListN.{length, getD}
-use Rattle.rules.specs.Limits.{maxJumps}
+use Rattle.rules.specs.Limits.{rally, sizeOf, maxJumps}
 use Rattle.rules.specs.Payload.{Bytes, numberAt}
 use Rattle.script.specs.declared.Record.{Record}
 use Rattle.script.specs.declared.Next.{Next}
@@ -16,12 +16,22 @@ headerBytes = 24
 abbrev pub mostPayload : ℕ
 mostPayload = 300
 
--- the lengths of the arrays that a script's calls are lent
+-- the lengths of the arrays that a script's calls are lent: "The store array is 5,664 words of 32 bits"; "B is an array of 26,880 bytes"
 abbrev pub storeArray : ℕ
-storeArray = 26880
+storeArray = 5664
+
+abbrev pub oldArray : ℕ
+oldArray = 26880
 
 abbrev pub replyArray : ℕ
 replyArray = 64
+
+-- "a row of words, four bytes each"; "whole items only, 32 bytes each"
+abbrev pub wordBytes : ℕ
+wordBytes = 4
+
+abbrev pub storedBytes : ℕ
+storedBytes = 32
 
 unfoldable pub recordIn : Bytes → Record
 recordIn p =
@@ -43,18 +53,32 @@ recordIn p =
 unfoldable pub pokeFits : (field index : ℕ) → Bool
 pokeFits field index = leb field 9 && ltb index 3 || (eqb field 10 || eqb field 11) && eqb index 0 || eqb field 12 && ltb index maxJumps
 
--- WRITE: up to the end of the store array
-unfoldable pub writeFits : (at len : ℕ) → Bool
-writeFits at len = leb len mostPayload && leb (at + len) storeArray
+-- WRITE, "a length that is no multiple of 32 (b4 = 1, 2) or of 4 (b4 = 0, 4), a kind above 2, items past the kind's size, or a place past the array:
+-- `? 9`". "b4 = 0 writes from word a; the payload is a row of words"
+unfoldable pub wordsFit : (at len : ℕ) → Bool
+wordsFit at len = eqb (len % wordBytes) 0 && leb (at + len / wordBytes) storeArray
 
--- MESSAGE 1, TIMER 2, DONE 3, DUMP 4, SNAP 6 and CMP 7; FRESH 5 without a setting; POKE 8; WRITE 9. "len above 300, store above 26,880,
--- reply above 64 .. the program stops"
+-- "b4 = 1: from item a of the plan of kind b0, in the half that the plan is in; b4 = 2: the same place in the other half"
+unfoldable pub itemsFit : (kind at len : ℕ) → Bool
+itemsFit kind at len = leb kind rally && eqb (len % storedBytes) 0 && leb (at + len / storedBytes) (sizeOf kind)
+
+-- "b4 = 3: the old byte array B, from byte a"
+unfoldable pub bytesFit : (at len : ℕ) → Bool
+bytesFit at len = leb (at + len) oldArray
+
+unfoldable pub writeFits : (to kind at len : ℕ) → Bool
+writeFits to kind at len = eqb to 0 && wordsFit at len || (eqb to 1 || eqb to 2) && itemsFit kind at len || eqb to 3 && bytesFit at len
+
+-- MESSAGE 1, TIMER 2, DONE 3, DUMP 4; FRESH 5 without a setting; SNAP 6 and CMP 7 of the store array, "with b4 = 1" of B; POKE 8; WRITE 9; MOVE 18,
+-- "a above 26,880: `? 18`". "len above 300, store above [5,664], reply above 64 .. the program stops"
 unfoldable pub fits : Record → Bool
 fits r =
-    (leb (r .kind) 7 && not (eqb (r .kind) 5)
+    (leb (r .kind) 4
     || eqb (r .kind) 5 && eqb (r .b4) 0
+    || (eqb (r .kind) 6 || eqb (r .kind) 7) && leb (r .b4) 1
     || eqb (r .kind) 8 && pokeFits (r .b4) (r .b0)
-    || eqb (r .kind) 9 && writeFits (r .a) (r .len))
+    || eqb (r .kind) 9 && writeFits (r .b4) (r .b0) (r .a) (r .len)
+    || eqb (r .kind) 18 && leb (r .a) oldArray)
     && leb (r .len) mostPayload
     && leb (r .store) storeArray
     && leb (r .reply) replyArray

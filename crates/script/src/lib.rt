@@ -3,10 +3,11 @@
 ghost use mathlib.Core.Path.{_≡_};
 ghost use Prim.Native.Nat.{_≤_};
 ghost use lib.ListN.{length};
-ghost use Rattle.script.specs.Records.{headerBytes, recordIn, pokeFits, writeFits, fits as Records·fits, nextIn};
+ghost use Rattle.script.specs.Records.{headerBytes, recordIn, pokeFits, wordsFit, itemsFit, bytesFit, writeFits, fits as Records·fits, nextIn};
 use fields::u16_at;
 use fields::u32_at;
 use limits::JUMP_COUNTS;
+use limits::RALLY;
 
 // The types of records.
 pub const END: u8 = 0;
@@ -29,14 +30,35 @@ pub const POKE: u8 = 8;
 
 pub const WRITE: u8 = 9;
 
+pub const MOVE: u8 = 18;
+
+// What SNAP and CMP take by b4 in the place of the store array, which is 0: the byte array of the old store.
+pub const OLD: u8 = 1;
+
+// Where WRITE writes, by b4: words of the store array, items of a plan in its half or in the other one, bytes of the old store.
+pub const TO_WORDS: u8 = 0;
+
+pub const TO_PLAN: u8 = 1;
+
+pub const TO_OTHER_HALF: u8 = 2;
+
+pub const TO_OLD: u8 = 3;
+
 pub const HEADER_BYTES: usize = 24;
 
 pub const MOST_PAYLOAD: usize = 300;
 
-// The lengths of the arrays that a script's calls are lent.
-pub const STORE_ARRAY: usize = 26880;
+// The lengths of the arrays that a script's calls are lent: the store's, in words, the old store's, in bytes, and the reply's.
+pub const STORE_ARRAY: usize = 5664;
+
+pub const OLD_ARRAY: usize = 26880;
 
 pub const REPLY_ARRAY: usize = 64;
+
+// The bytes of a word, and of an item as words.
+const WORD_BYTES: usize = 4;
+
+const STORED_BYTES: usize = 32;
 
 // A record's header; store and reply are the lengths lent to the call.
 pub struct Record {
@@ -90,24 +112,50 @@ fn poke_fits(field: u8, index: u8) -> bool
         | (field == 12) & ((index as usize) < JUMP_COUNTS)
 }
 
-// Whether a payload fits the store array from a place on.
-fn write_fits(at: u32, len: usize) -> bool
-    ensures { λ r. ⌜ r ≡ writeFits at len ⌝ }
+// Whether a row of words fits the store array from a word on.
+fn words_fit(at: u32, len: usize) -> bool
+    ensures { λ r. ⌜ r ≡ wordsFit at len ⌝ }
 {
-    if MOST_PAYLOAD < len {
+    (len % WORD_BYTES == 0) & (at as usize + len / WORD_BYTES <= STORE_ARRAY)
+}
+
+// Whether a row of items fits the plan of a kind from an item on.
+fn items_fit(kind: u8, at: u32, len: usize) -> bool
+    ensures { λ r. ⌜ r ≡ itemsFit kind at len ⌝ }
+{
+    let most = places::size_of(kind) as usize;
+    (kind <= RALLY) & (len % STORED_BYTES == 0) & (at as usize + len / STORED_BYTES <= most)
+}
+
+// Whether bytes fit the old store's array from a byte on.
+fn bytes_fit(at: u32, len: usize) -> bool
+    ensures { λ r. ⌜ r ≡ bytesFit at len ⌝ }
+{
+    if OLD_ARRAY < len {
         return false;
     }
-    at as usize <= STORE_ARRAY - len
+    at as usize <= OLD_ARRAY - len
+}
+
+// Whether a payload fits where it is to go.
+fn write_fits(to: u8, kind: u8, at: u32, len: usize) -> bool
+    ensures { λ r. ⌜ r ≡ writeFits to kind at len ⌝ }
+{
+    (to == TO_WORDS) & words_fit(at, len)
+        | ((to == TO_PLAN) | (to == TO_OTHER_HALF)) & items_fit(kind, at, len)
+        | (to == TO_OLD) & bytes_fit(at, len)
 }
 
 // Whether a record can be played.
 fn fits(r: Record) -> bool
     ensures { λ t. ⌜ t ≡ Records·fits r ⌝ }
 {
-    let known = (r.kind <= CMP) & (r.kind != FRESH)
+    let known = (r.kind <= DUMP)
         | (r.kind == FRESH) & (r.b4 == 0)
+        | ((r.kind == SNAP) | (r.kind == CMP)) & (r.b4 <= OLD)
         | (r.kind == POKE) & poke_fits(r.b4, r.b0)
-        | (r.kind == WRITE) & write_fits(r.a, r.len);
+        | (r.kind == WRITE) & write_fits(r.b4, r.b0, r.a, r.len)
+        | (r.kind == MOVE) & (r.a as usize <= OLD_ARRAY);
     known & (r.len <= MOST_PAYLOAD) & (r.store <= STORE_ARRAY) & (r.reply <= REPLY_ARRAY)
 }
 

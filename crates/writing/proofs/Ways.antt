@@ -9,16 +9,16 @@ use borrow.Rule.Slice.PartMut.{putMid}
 use borrow.Author.Tests.{le-leb, lt-leb}
 use Rattle.writing.specs.Written.{written}
 
-module _ (store : List ℕ) (at : ℕ) (bytes : List ℕ) where
-  pub no-place : length store < at → store ≡ written store at bytes
+module _ (store : List ℕ) (at : ℕ) (more : List ℕ) where
+  pub no-place : length store < at → store ≡ written store at more
   unfolding written
-  no-place h = rw (lt-leb (at + length bytes) (length store) (omega arith))
+  no-place h = rw (lt-leb (at + length more) (length store) (omega arith))
 
-  pub no-room : at ≤ length store → length store - at < length bytes → store ≡ written store at bytes
+  pub no-room : at ≤ length store → length store - at < length more → store ≡ written store at more
   unfolding written
-  no-room h short = rw (lt-leb (at + length bytes) (length store) (omega arith))
+  no-room h short = rw (lt-leb (at + length more) (length store) (omega arith))
 
-  module _ (h : at ≤ length store) (fits : length bytes ≤ length store - at) where
+  module _ (h : at ≤ length store) (fits : length more ≤ length store - at) where
     rest : drop (length store - at) (drop at store) ≡ []
     rest = let past : length (drop at store) ≤ length store - at = omega (arith, length-drop at store) in drop-of-length-le (drop at store) past
 
@@ -27,9 +27,9 @@ module _ (store : List ℕ) (at : ℕ) (bytes : List ℕ) where
 
     pub copied
         : (part : List ℕ)
-        → part ≡ take (length bytes) bytes ++ drop (length bytes) (take (length store - at) (drop at store))
-        → putMid at (length store - at) store part ≡ written store at bytes
+        → part ≡ take (length more) more ++ drop (length more) (take (length store - at) (drop at store))
+        → putMid at (length store - at) store part ≡ written store at more
     unfolding written
     copied part e =
-        rw (le-leb (at + length bytes) (length store) (omega arith), e, rest, all, take-length bytes, drop-drop (length bytes) at store)
-        (ap (λ (l : List ℕ). take at store ++ l) (append-nil (bytes ++ drop (at + length bytes) store)))
+        rw (le-leb (at + length more) (length store) (omega arith), e, rest, all, take-length more, drop-drop (length more) at store)
+        (ap (λ (l : List ℕ). take at store ++ l) (append-nil (more ++ drop (at + length more) store)))

@@ -1,2 +1,2 @@
--- Bytes written over others.
+-- Bytes and words written over others.
 pub mod Written

@@ -1,6 +1,8 @@
-// Bytes written over others, in a store that a host writes.
+// Bytes and words written over others, in a store that a host writes.
 ghost use mathlib.Core.Path.{_≡_};
-ghost use Rattle.writing.specs.Written.{written};
+ghost use Rattle.writing.specs.Written.{written, wordsWritten};
+
+const WORD_BYTES: usize = 4;
 
 // Bytes go into the store from a place on, where all of them fit.
 pub fn write(store: &mut [u8], at: usize, payload: &[u8])
@@ -13,4 +15,25 @@ pub fn write(store: &mut [u8], at: usize, payload: &[u8])
         return;
     }
     bytes::copy(payload, &mut store[at..]);
+}
+
+// The same of words, whose bytes stand in the payload, lowest first. Nothing is written where they are not whole words.
+pub fn write_words(store: &mut [u32], at: usize, payload: &[u8])
+    ensures { λ _. ⌜ now (store .exit) ≡ wordsWritten (now (store .entry)) at (now (payload .entry)) ⌝ }
+{
+    if payload.len() % WORD_BYTES != 0 {
+        return;
+    }
+    if store.len() < at {
+        return;
+    }
+    let words = payload.len() / WORD_BYTES;
+    if store.len() - at < words {
+        return;
+    }
+    let mut i: usize = 0;
+    while i < words {
+        store[at + i] = fields::u32_at(payload, i * WORD_BYTES);
+        i += 1;
+    }
 }

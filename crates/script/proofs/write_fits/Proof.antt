@@ -1,17 +1,22 @@
--- `script::write_fits` meets its contract, by its tests.
-use Rattle.script.proofs.Ways.{too-long, place-fits}
+-- `script::write_fits` meets its contract: its tests are the definition's.
+use Rattle.script.specs.Records.{writeFits}
 use borrow.Author.Needs.{needs}
 use Rattle.script.proofs.write_fits.Statement.{statement}
 use Rattle.script.proofs.write_fits.Tie as tie
 
+words-fit-requires : tie.Need-words-fit-requires
+words-fit-requires c κs = search needs
+
+items-fit-requires : tie.Need-items-fit-requires
+items-fit-requires c κs = search needs
+
+bytes-fit-requires : tie.Need-bytes-fit-requires
+bytes-fit-requires c κs = search needs
+
 returns : tie.Need-returns
-returns c = too-long _ _ (c .if1 .taken)
-
-sub-result : tie.Need-sub-result
-sub-result c = search needs
-
-returns-2 : tie.Need-returns-2
-returns-2 c = place-fits _ _ (c .if1 .left)
+unfolding writeFits
+returns c = rw (c .bytes-fit .ensures, c .before .items-fit .ensures, c .before .before .words-fit .ensures)
 
 pub write-fits-spec : {M : Type 1} → statement M
-write-fits-spec = tie.close (tie.spec returns sub-result returns-2)
+write-fits-spec =
+    tie.close (tie.spec words-fit-requires items-fit-requires bytes-fit-requires returns)
