@@ -3,6 +3,7 @@
 mod parts;
 
 pub use parts::first;
+pub use parts::first_words;
 pub use parts::part;
 pub use parts::within;
 ghost use mathlib.Core.List.{[], _∷_};

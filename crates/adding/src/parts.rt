@@ -32,3 +32,13 @@ pub fn first(list: &[u64], n: usize) -> &[u64]
     }
     list
 }
+
+// The same of words.
+pub fn first_words(words: &[u32], n: usize) -> &[u32]
+    ensures { λ r. ⌜ now r ≡ take n (now (words .entry)) ⌝ }
+{
+    if n < words.len() {
+        return &words[..n];
+    }
+    words
+}

@@ -36,6 +36,10 @@ servedLine letter outcome id len reply =
 unfoldable pub doneLine : (outcome : ℕ) → Command → List ℕ
 doneLine outcome command = begun 100 (outcome ∷ []) ++ (commandText command ++ ascii "\n")
 
+-- "`v OUTCOME`" for a move
+abbrev pub movedLine : (outcome : ℕ) → List ℕ
+movedLine outcome = row 118 (outcome ∷ [])
+
 -- "the line `? TYPE`, and the program stops. A record cut by the end of input: `? cut`."
 unfoldable pub stopText : Next → List ℕ
 stopText (Play r) = []

@@ -2,7 +2,7 @@
 ghost use mathlib.Core.Path.{_≡_};
 ghost use lib.ListN.{drop};
 ghost use Rattle.adding.specs.Added.{Adds};
-ghost use Rattle.lines.specs.Lines.{untouched as Lines·untouched, servedLine, doneLine, stopText};
+ghost use Rattle.lines.specs.Lines.{untouched as Lines·untouched, servedLine, doneLine, movedLine, stopText};
 use command::Command;
 use script::Next;
 
@@ -49,6 +49,13 @@ pub fn put_done(out: &mut [u8], at: usize, outcome: u8, command: Command) -> usi
     let list = [outcome as u64];
     let end = rows::put_begun(out, at, b'd', &list);
     command_words::put_command(out, end, command)
+}
+
+// What a move answered.
+pub fn put_moved(out: &mut [u8], at: usize, outcome: u8) -> usize
+    ensures { λ r. ⌜ Adds (movedLine outcome) (now (out .entry)) at (now (out .exit)) r ⌝ }
+{
+    rows::put_row(out, at, b'v', &[outcome as u64])
 }
 
 // Why a script stops, where that is not its end.

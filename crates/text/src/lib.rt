@@ -3,6 +3,7 @@
 mod numerals;
 
 pub use adding::first;
+pub use adding::first_words;
 pub use adding::part;
 pub use adding::put;
 pub use adding::put_byte;
