@@ -2,7 +2,7 @@
 ghost use mathlib.Core.Path.{_≡_};
 ghost use Prim.Native.Nat.{_≤_, _<_};
 ghost use lib.ListN.{length};
-ghost use Rattle.rules.specs.Limits.{rally, sizeOf, storeBytes};
+ghost use Rattle.rules.specs.Limits.{rally, sizeOf, storeWords};
 ghost use Rattle.rules.specs.Messages.{itemIn, itemOf};
 ghost use Rattle.item.specs.Patterns.{itemFor, patterns};
 ghost use Rattle.places.specs.Places.{itemAt};
@@ -19,7 +19,7 @@ const NOT_CURRENT: u8 = 0;
 
 // The item with a number, with its values.
 pub fn fetch(store: &[u8], kind: u8, half: bool, n: u16) -> Item
-    requires { ⌜ (storeBytes ≤ length (now store)) × (kind ≤ rally) × (n < sizeOf kind) ⌝ }
+    requires { ⌜ (storeWords ≤ length (now store)) × (kind ≤ rally) × (n < sizeOf kind) ⌝ }
     ensures { λ r. ⌜ r ≡ itemFor (itemIn (itemAt (now (store .entry)) half kind n)) ⌝ }
 {
     let at = place_at(kind, half, n);
@@ -29,7 +29,7 @@ pub fn fetch(store: &[u8], kind: u8, half: bool, n: u16) -> Item
 
 // The item becomes the one with a number, and is fetched from there as it was kept; every other byte of the store stays.
 pub fn keep(store: &mut [u8], kind: u8, half: bool, n: u16, item: Item)
-    requires { ⌜ (storeBytes ≤ length (now store)) × (kind ≤ rally) × (n < sizeOf kind) ⌝ }
+    requires { ⌜ (storeWords ≤ length (now store)) × (kind ≤ rally) × (n < sizeOf kind) ⌝ }
     ensures { λ _. ⌜ (now (store .exit) ≡ putAt (now (store .entry)) half kind n (itemOf (patterns item))) × (itemIn (itemAt (now (store .exit)) half kind n) ≡ patterns item) ⌝ }
 {
     let bytes = item::item_bytes(NOBODY, NOBODY, NOT_CURRENT, item);

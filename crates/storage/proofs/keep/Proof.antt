@@ -4,7 +4,7 @@ use mathlib.Core.Bool.{Bool}
 use Prim.Native.Nat.{ℕ, _≤_, _<_}
 use native.Mathlib.Omega.{arith}
 use lib.ListN.{length}
-use Rattle.rules.specs.Limits.{rally, sizeOf, storeBytes}
+use Rattle.rules.specs.Limits.{rally, sizeOf, storeWords}
 use Rattle.rules.specs.Payload.{Bytes}
 use Rattle.rules.specs.Messages.{Item, station, itemInt, itemOf, itemIn}
 use Rattle.places.specs.Part.{put}
@@ -18,7 +18,7 @@ use borrow.Author.Needs.{needs}
 use Rattle.storage.proofs.keep.Statement.{statement}
 use Rattle.storage.proofs.keep.Tie as tie
 
-put-there : (store after : Bytes) (half : Bool) (kind n at : ℕ) (bytes : Bytes) (i : Item) → storeBytes ≤ length store → kind ≤ rally → n < sizeOf kind
+put-there : (store after : Bytes) (half : Bool) (kind n at : ℕ) (bytes : Bytes) (i : Item) → storeWords ≤ length store → kind ≤ rally → n < sizeOf kind
     → at ≡ offsetOf half kind n → BytesOf (itemInt (station 0 0) 0 i) bytes → after ≡ put store at bytes
     → (after ≡ putAt store half kind n (itemOf i)) × (itemIn (itemAt after half kind n) ≡ i)
 unfolding itemOf
