@@ -2,12 +2,12 @@
 -- other item.
 use mathlib.Core.Path.{_≡_, refl, ap}
 use mathlib.Core.Bool.{Bool, true, false}
-use Prim.Native.Nat.{ℕ, zero, suc, _+_, _*_, _≤_, _<_}
+use Prim.Native.Nat.{ℕ, zero, suc, _+_, _*_, _^_, _≤_, _<_}
 use native.Mathlib.Decide.{decLt}
 use native.Mathlib.Omega.{arith}
 use native.Mathlib.Nat.{mul-le-mul-right}
 use lib.ListN.{length}
-use Rattle.rules.specs.Limits.{rally, sizeOf, firstPlaceOf, halfPlaces}
+use Rattle.rules.specs.Limits.{rally, sizeOf, firstPlaceOf, halfPlaces, byteValues}
 use Rattle.rules.specs.Messages.{Item, itemOf}
 use Rattle.rule_laws.specs.Layout.{length-itemOf}
 use Rattle.rule_laws.specs.Words.{length-wordsOf, words-kept}
@@ -39,6 +39,13 @@ first-before (suc zero) (suc zero) less known = absurd (omega arith)
 first-before (suc zero) (suc (suc zero)) less known = omega arith
 first-before (suc zero) (suc (suc (suc later))) less known = absurd (omega arith)
 first-before (suc (suc kind)) later less known = absurd (omega arith)
+
+-- every number of an item is one of two bytes
+pub sizes-short : (kind : ℕ) → sizeOf kind ≤ byteValues ^ 2
+sizes-short zero = omega arith
+sizes-short (suc zero) = omega arith
+sizes-short (suc (suc zero)) = omega arith
+sizes-short (suc (suc (suc kind))) = omega arith
 
 pub words-lawful : Lawful words
 words-lawful = record { wide = length-wordsOf; kept = words-kept; within = first-within; ordered = first-before }

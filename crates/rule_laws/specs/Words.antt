@@ -1,5 +1,5 @@
 -- An item kept as eight words is the stored item; and what is read of eight words is what they say.
-use Prim.Native.Nat.{ℕ, _+_, _*_, _/_, _%_, _^_, _<_}
+use Prim.Native.Nat.{ℕ, _%_, _^_, _<_}
 use native.Mathlib.Omega.{arith}
 use mathlib.Core.Path.{_≡_, refl, ap, ap₂}
 use mathlib.Core.List.{List, [], _∷_}
@@ -8,7 +8,7 @@ use Rattle.rules.specs.Limits.{byteValues, clockValues, itemWords}
 use Rattle.rules.specs.Payload.{bytesOf}
 use Rattle.rules.specs.Layouts.{layoutOf, pack}
 use Rattle.rules.specs.Messages.{Item, encode, itemOf, itemIn}
-use Rattle.rules.specs.Words.{frameUnit, autocontinueUnit, wordsOf, itemOfWords}
+use Rattle.rules.specs.Words.{frameUnit, commandIn, frameIn, autocontinueIn, lastWordOf, wordsOf, itemOfWords}
 use Rattle.rule_laws.specs.ReadBack.{item-reads-back}
 
 pub length-wordsOf : (item : Item) → length (wordsOf item) ≡ itemWords
@@ -17,16 +17,13 @@ length-wordsOf item = refl
 -- ---- the three numbers of the last word
 
 module _ (c f a : ℕ) where
-  abbrev last : ℕ
-  last = c % frameUnit + f % byteValues * frameUnit + a % byteValues * autocontinueUnit
-
-  command-kept : last % frameUnit ≡ c % frameUnit
+  pub command-kept : commandIn (lastWordOf c f a) ≡ c % frameUnit
   command-kept = omega arith
 
-  frame-kept : last / frameUnit % byteValues ≡ f % byteValues
+  pub frame-kept : frameIn (lastWordOf c f a) ≡ f % byteValues
   frame-kept = omega arith
 
-  autocontinue-kept : last / autocontinueUnit % byteValues ≡ a % byteValues
+  pub autocontinue-kept : autocontinueIn (lastWordOf c f a) ≡ a % byteValues
   autocontinue-kept = omega arith
 
 two-bytes : (n m : ℕ) → n % frameUnit ≡ m % frameUnit → bytesOf 2 n ≡ bytesOf 2 m
@@ -44,10 +41,10 @@ words-kept item =
     let c = item .command in
     let f = item .frame in
     let a = item .autocontinue in
-    let w = last c f a in
-    let ec : bytesOf 2 (w % frameUnit) ≡ bytesOf 2 c = two-bytes (w % frameUnit) c (omega (arith, command-kept c f a)) in
-    let ef : bytesOf 1 (w / frameUnit % byteValues) ≡ bytesOf 1 f = one-byte (w / frameUnit % byteValues) f (omega (arith, frame-kept c f a)) in
-    let ea : bytesOf 1 (w / autocontinueUnit % byteValues) ≡ bytesOf 1 a = one-byte (w / autocontinueUnit % byteValues) a (omega (arith, autocontinue-kept c f a)) in
+    let w = lastWordOf c f a in
+    let ec : bytesOf 2 (commandIn w) ≡ bytesOf 2 c = two-bytes (commandIn w) c (omega (arith, command-kept c f a)) in
+    let ef : bytesOf 1 (frameIn w) ≡ bytesOf 1 f = one-byte (frameIn w) f (omega (arith, frame-kept c f a)) in
+    let ea : bytesOf 1 (autocontinueIn w) ≡ bytesOf 1 a = one-byte (autocontinueIn w) a (omega (arith, autocontinue-kept c f a)) in
     rw (ec, ef, ea)
 
 -- what is read of the stored item that eight words are is what they say

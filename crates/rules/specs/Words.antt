@@ -26,11 +26,14 @@ frameIn last = last / frameUnit % byteValues
 abbrev pub autocontinueIn : ℕ → ℕ
 autocontinueIn last = last / autocontinueUnit % byteValues
 
--- the eight words of an item; each number takes the bits of its field
+-- the word that has them, each in its own bytes
+abbrev pub lastWordOf : (command frame autocontinue : ℕ) → ℕ
+lastWordOf command frame autocontinue = command % frameUnit + frame % byteValues * frameUnit + autocontinue % byteValues * autocontinueUnit
+
+-- the eight words of an item
 abbrev pub wordsOf : Item → List ℕ
 wordsOf i =
-    i .param1 ∷ i .param2 ∷ i .param3 ∷ i .param4 ∷ i .x ∷ i .y ∷ i .z
-    ∷ (i .command % frameUnit + i .frame % byteValues * frameUnit + i .autocontinue % byteValues * autocontinueUnit) ∷ []
+    i .param1 ∷ i .param2 ∷ i .param3 ∷ i .param4 ∷ i .x ∷ i .y ∷ i .z ∷ lastWordOf (i .command) (i .frame) (i .autocontinue) ∷ []
 
 -- the item that eight words are, as number n of a kind: "Seq and kind follow from the place"
 abbrev pub itemOfWords : List ℕ → (kind n : ℕ) → Item
