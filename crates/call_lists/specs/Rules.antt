@@ -7,7 +7,7 @@ use mathlib.Core.Bool.{Bool, true, false, true≢false, not, cond, _&&_}
 use lib.ListN.{length}
 use lib.Dec.{eqb, ltb}
 use borrow.Author.Tests.{eqb-true, eq-eqb, ne-eqb, leb-true, le-leb, ltb-true, le-ltb, not-false}
-use Rattle.rules.specs.Limits.{flight, rally, kinds, everyKind, sizeOf, accepted, denied, outOfRange, storeBytes, replyBytesMin, maxRepeats, expiryMs}
+use Rattle.rules.specs.Limits.{flight, rally, kinds, everyKind, sizeOf, accepted, denied, outOfRange, storeWords, replyBytesMin, maxRepeats, expiryMs}
 use Rattle.rules.specs.Payload.{Bytes}
 use Rattle.rules.specs.Messages.{Station, sameStation, Item, Message, setCurrent, current, requestList, count, clearAll, ack, requestInt, itemInt, statustext, unknown, decode, itemOf}
 use Rattle.rules.specs.Items.{jumpsAmong, fault}
@@ -219,13 +219,13 @@ module _ (own from : Station) (now : ℕ) where
 hears-within : (c : Call) → Within (hears c)
 unfolding heard
 hears-within (message own from id payload clock store reply) =
-    either Within (ltb store storeBytes) (λ t. refl)
+    either Within (ltb store storeWords) (λ t. refl)
     (λ t. either Within (ltb reply replyBytesMin) (λ t. refl)
     (λ t. either Within (eqb (length payload) 0) (λ t. refl) (λ t. message-within own from clock (decode id payload))))
 hears-within (timer kind clock store reply) =
-    either Within (ltb store storeBytes) (λ t. refl)
+    either Within (ltb store storeWords) (λ t. refl)
     (λ t. either Within (ltb reply replyBytesMin) (λ t. refl) (λ t. either Within (isKnown kind) (λ t. tt) (λ t. refl)))
-hears-within (done store) = either Within (ltb store storeBytes) (λ t. refl) (λ t. tt)
+hears-within (done store) = either Within (ltb store storeWords) (λ t. refl) (λ t. tt)
 
 -- an answer that is no refusal with 15
 abbrev AnswerWithin : Answer → Type 0

@@ -7,7 +7,7 @@ use lib.ListN.{length, take, drop}
 use lib.Seq.{take-at}
 use lib.Dec.{ltb}
 use borrow.Author.Tests.{ltb-false}
-use Rattle.rules.specs.Limits.{rally, storeBytes, sizeOf, outOfRange, shortStore}
+use Rattle.rules.specs.Limits.{rally, storeWords, sizeOf, outOfRange, shortStore}
 use Rattle.rules.specs.Limits
 use Rattle.rules.specs.Payload.{Bytes}
 use Rattle.rules.specs.Messages.{Station, ack}
@@ -97,7 +97,7 @@ module _ (State : Type 0) (freshState : State) (view : State → Bytes → Model
   pub record Shows : Type 0 where
     pub starts : (s : Bytes) → view freshState s ≡ fresh
     pub ranges : (st : State) (s s′ : Bytes) → inRange (view st s) ≡ inRange (view st s′)
-    pub front : (st : State) (lent rest : Bytes) → storeBytes ≤ length lent → inRange (view st lent) ≡ true → view st (lent ++ rest) ≡ view st lent
+    pub front : (st : State) (lent rest : Bytes) → storeWords ≤ length lent → inRange (view st lent) ≡ true → view st (lent ++ rest) ≡ view st lent
 
   module _ (shows : Shows) where
     -- one call from a formed model
@@ -123,7 +123,7 @@ module _ (State : Type 0) (freshState : State) (view : State → Bytes → Model
           }
 
     -- a call lent too short a part is refused, whatever the model
-    short : (m : Model) (c : Call) → ltb (storeLent c) storeBytes ≡ true → step m c ≡ record { model = m; answer = refused shortStore }
+    short : (m : Model) (c : Call) → ltb (storeLent c) storeWords ≡ true → step m c ≡ record { model = m; answer = refused shortStore }
     unfolding step act heard
     short m (message own from id payload clock store reply) e = rw e
     short m (timer kind clock store reply) e = rw e
@@ -132,12 +132,12 @@ module _ (State : Type 0) (freshState : State) (view : State → Bytes → Model
     pub one :
         (m : Model) (c : Call) (st : State) (lent lent′ rest b b′ : Bytes) (r : Result State) → Formed m → view st (lent ++ rest) ≡ m → length lent ≡ storeLent c
         → Serves State view half spare c st lent lent′ b b′ r → Stepping m c (r .state) (lent′ ++ rest) (got r b′)
-    one m c st lent lent′ rest b b′ r f shown len serves = go (ltb (storeLent c) storeBytes) refl
+    one m c st lent lent′ rest b b′ r f shown len serves = go (ltb (storeLent c) storeWords) refl
       where
         ranged : inRange (view st lent) ≡ true
         ranged = shows .ranges st lent (lent ++ rest) ∙ ap inRange shown ∙ formed-ranged m f
 
-        go : (t : Bool) → ltb (storeLent c) storeBytes ≡ t → Stepping m c (r .state) (lent′ ++ rest) (got r b′)
+        go : (t : Bool) → ltb (storeLent c) storeWords ≡ t → Stepping m c (r .state) (lent′ ++ rest) (got r b′)
         go true t =
             let refusal : (x : Model) → step x c ≡ record { model = x; answer = refused shortStore } = λ x. short x c t in
             let same = serves .unchanged (ap (λ (x : Stepped). isRefused (x .answer)) (refusal (view st lent))) in
@@ -150,12 +150,12 @@ module _ (State : Type 0) (freshState : State) (view : State → Bytes → Model
               read = subst (λ (x : Stepped). ReadsBack (x .answer) (r .id) (take (r .len) b′)) (sym (refusal m)) tt;
             }
         go false t =
-            let long : storeBytes ≤ length lent = subst (λ (n : ℕ). storeBytes ≤ n) (sym len) (ltb-false (storeLent c) storeBytes t) in
+            let long : storeWords ≤ length lent = subst (λ (n : ℕ). storeWords ≤ n) (sym len) (ltb-false (storeLent c) storeWords t) in
             let before : view st lent ≡ m = sym (shows .front st lent rest long ranged) ∙ shown in
             let now : view (r .state) lent′ ≡ step m c .model = serves .model ∙ ap (λ (x : Model). step x c .model) before in
             let kept : inRange (view (r .state) lent′) ≡ true = ap inRange now ∙ formed-ranged (step m c .model) (step-kept m c f) in
             stepping c st lent lent′ b b′ r serves m before (r .state) (lent′ ++ rest)
-            (shows .front (r .state) lent′ rest (subst (λ (n : ℕ). storeBytes ≤ n) (sym (serves .long)) long) kept ∙ now)
+            (shows .front (r .state) lent′ rest (subst (λ (n : ℕ). storeWords ≤ n) (sym (serves .long)) long) kept ∙ now)
 
     record Ends (m : Model) (cs : List Call) (gs : List Got) (w : World) : Type 0 where
       model : view (w .state) (w .store) ≡ run m cs

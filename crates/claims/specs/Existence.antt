@@ -6,7 +6,7 @@ use mathlib.Core.List.{List, [], _∷_, _++_}
 use mathlib.Core.Bool.{true}
 use lib.ListN.{length, take, drop, replicate, length-append, length-replicate, take-append-drop}
 use lib.Seq.{length-take-le}
-use Rattle.rules.specs.Limits.{kinds, storeBytes}
+use Rattle.rules.specs.Limits.{kinds, storeWords}
 use Rattle.rules.specs.Payload.{Bytes}
 use Rattle.rules.specs.Model.{inRange}
 use Rattle.rules.specs.Calls.{Call, storeLent, bufferLent}
@@ -50,7 +50,7 @@ traced w (c ∷ cs) ready fit lent =
     let split : front ++ rest ≡ w .store = take-append-drop (storeLent c) (w .store) in
     let size : length front ≡ storeLent c = length-take-le (storeLent c) (w .store) (lent .0) in
     let same : view (w .state) (front ++ rest) ≡ shows w = ap (view (w .state)) split in
-    let fits : inRange (view (w .state) front) ≡ true → storeBytes ≤ length front → ModelFits (view (w .state) front) =
+    let fits : inRange (view (w .state) front) ≡ true → storeWords ≤ length front → ModelFits (view (w .state) front) =
     λ ranged long. subst ModelFits (sym same ∙ view-front (w .state) front rest long ranged) (ready .fits) in
     let kept : Kept c (w .state) front buffer = result-exists c (w .state) front buffer (ready .three) size (fit .0) fits in
     let z : World = record { state = kept .result .state; store = kept .store ++ rest } in

@@ -2,7 +2,7 @@
 ghost use mathlib.Core.Path.{_≡_};
 ghost use Prim.Native.Nat.{_≤_};
 ghost use lib.ListN.{length};
-ghost use Rattle.rules.specs.Limits.{fence, sizeOf, storeBytes};
+ghost use Rattle.rules.specs.Limits.{fence, sizeOf, storeWords};
 ghost use Rattle.rules.specs.Fence.{fenceOk};
 ghost use Rattle.places.specs.Places.{itemsIn};
 ghost use Rattle.fence.specs.FenceReading.{brokenReading, readingOf, readAs};
@@ -76,7 +76,7 @@ fn read_item(reading: Reading, command: u16, vertices: u32) -> Reading
 
 // Whether the first n fence items of a half keep the rule.
 pub fn fence_ok(store: &[u8], half: bool, n: u16) -> bool
-    requires { ⌜ (storeBytes ≤ length (now store)) × (n ≤ sizeOf fence) ⌝ }
+    requires { ⌜ (storeWords ≤ length (now store)) × (n ≤ sizeOf fence) ⌝ }
     ensures { λ r. ⌜ r ≡ fenceOk (itemsIn (now (store .entry)) half fence n) ⌝ }
 {
     let mut reading = Reading {

@@ -78,9 +78,12 @@ pub const Y_LIMIT: i32 = 1_800_000_000;
 // Return points of a fence.
 pub const MAX_RETURN_POINTS: u16 = 1;
 
-// Bytes: of an item, of the store, of the reply buffer.
+// Bytes: of an item that is sent, and of the reply buffer.
 pub const ITEM_BYTES: usize = 38;
 
-pub const STORE_BYTES: usize = 26752;
-
 pub const REPLY_BYTES: usize = 54;
+
+// Words: of an item that is stored, and of the store.
+pub const ITEM_WORDS: usize = 8;
+
+pub const STORE_WORDS: usize = 5632;

@@ -8,7 +8,7 @@ ghost use mathlib.Core.Path.{_≡_};
 ghost use mathlib.Core.Bool.{true, cond};
 ghost use Prim.Native.Nat.{_+_, _≤_, _<_};
 ghost use lib.ListN.{length, getD, set};
-ghost use Rattle.rules.specs.Limits.{flight, sizeOf, storeBytes, maxFollowed, maxRuns, maxJumps};
+ghost use Rattle.rules.specs.Limits.{flight, sizeOf, storeWords, maxFollowed, maxRuns, maxJumps};
 ghost use Rattle.rules.specs.NextCommand as rules;
 ghost use Rattle.places.specs.Places.{itemsIn};
 ghost use Rattle.next_command.specs.Finding.{foundOf, settledAs};
@@ -64,7 +64,7 @@ fn counted(counts: [u16; JUMP_COUNTS], j: u16, up: bool) -> [u16; JUMP_COUNTS]
 
 // The search from item n.
 pub fn find(store: &[u8], half: bool, len: u16, counts: [u16; JUMP_COUNTS], from: u16) -> Found
-    requires { ⌜ (storeBytes ≤ length (now store)) × (len ≤ sizeOf flight) × (from ≤ sizeOf flight) ⌝ }
+    requires { ⌜ (storeWords ≤ length (now store)) × (len ≤ sizeOf flight) × (from ≤ sizeOf flight) ⌝ }
     ensures { λ r. ⌜ foundOf r ≡ rules.search maxFollowed (itemsIn (now (store .entry)) half flight len) counts from ⌝ }
 {
     let mut runs = counts;

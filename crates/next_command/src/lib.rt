@@ -9,7 +9,7 @@ ghost use mathlib.Core.Path.{_≡_};
 ghost use mathlib.Core.Bool.{cond};
 ghost use Prim.Native.Nat.{_+_, _≤_, _<_};
 ghost use lib.ListN.{length};
-ghost use Rattle.rules.specs.Limits.{flight, sizeOf, storeBytes, maxFollowed};
+ghost use Rattle.rules.specs.Limits.{flight, sizeOf, storeWords, maxFollowed};
 ghost use Rattle.rules.specs.NextCommand.{search};
 ghost use Rattle.places.specs.Places.{itemsIn};
 ghost use Rattle.next_command.specs.Finding.{foundOf};
@@ -33,7 +33,7 @@ pub fn next(
     begun: bool,
     counts: [u16; JUMP_COUNTS],
 ) -> Found
-    requires { ⌜ (storeBytes ≤ length (now store)) × (plan .len ≤ sizeOf flight) × (current < sizeOf flight) ⌝ }
+    requires { ⌜ (storeWords ≤ length (now store)) × (plan .len ≤ sizeOf flight) × (current < sizeOf flight) ⌝ }
     ensures { λ r. ⌜ foundOf r ≡ search maxFollowed (itemsIn (now (store .entry)) (plan .half) flight (plan .len)) counts (cond begun (current + 1) current) ⌝ }
 {
     let from = start(current, begun);

@@ -1,5 +1,6 @@
--- Where items stand in the store, and the laws of places and writes.
+-- Where items stand in a store of a form, and the laws of places and writes.
 pub mod Part
+pub mod Forms
 pub mod Places
 pub mod Writes
 pub mod Stored

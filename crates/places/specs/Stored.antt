@@ -1,35 +1,28 @@
 -- The fields of an item as numbers of the store, and counting items by their command.
-use mathlib.Core.Path.{_≡_, refl, _∙_, ap}
+use mathlib.Core.Path.{_≡_, refl}
 use mathlib.Core.List.{List, [], _∷_, _++_}
 use mathlib.Core.Bool.{Bool, true, false, cond}
-use Prim.Native.Nat.{ℕ, zero, suc, _+_, _*_, _≤_}
+use Prim.Native.Nat.{ℕ, suc, _%_}
 use native.Mathlib.Omega.{arith}
 use lib.ListN.{getD}
 use lib.Dec.{eqb}
-use Rattle.rules.specs.Limits.{byteValues}
-use Rattle.rules.specs.Payload.{Bytes, numberAt}
-use Rattle.rules.specs.Layouts.{layoutOf, values}
-use Rattle.rules.specs.Messages.{itemIn}
+use Rattle.rules.specs.Limits.{clockValues}
+use Rattle.rules.specs.Payload.{Bytes, numberAt, bytesOf}
+use Rattle.rules.specs.Layouts.{layoutOf, values, pack}
+use Rattle.rules.specs.Messages.{encode, itemOf, itemIn}
+use Rattle.rules.specs.Words.{lastWord, commandIn}
 use Rattle.rules.specs.Items.{jump, returnPoint, jumpsAmong}
 use Rattle.rules.specs.Fence.{returnPoints}
-use Rattle.places.specs.Part.{part, getD-part}
+use Rattle.places.specs.Forms.{words}
 
-pub command-is : (b : Bytes) → itemIn b .command ≡ numberAt 2 30 b
-unfolding itemIn values layoutOf
-command-is b = refl
+-- the command and param 1 of the stored item that eight words are, wherever it stands
+pub command-is : (w : List ℕ) (kind n : ℕ) → itemIn (words .stored w kind n) .command ≡ commandIn (getD w lastWord 0)
+unfolding itemIn itemOf encode pack layoutOf values numberAt bytesOf
+command-is w kind n = omega arith
 
-pub param1-is : (b : Bytes) → itemIn b .param1 ≡ numberAt 4 0 b
-unfolding itemIn values layoutOf
-param1-is b = refl
-
--- a number within a part
-pub number-part : (d : Bytes) (at n size i : ℕ) → i + size ≤ n → numberAt size i (part d at n) ≡ numberAt size (at + i) d
-unfolding numberAt
-number-part d at n zero i within = refl
-number-part d at n (suc size) i within =
-    ap (λ (b : ℕ). b + byteValues * numberAt size (suc i) (part d at n)) (getD-part d at n i (omega arith))
-    ∙ ap (λ (k : ℕ). getD d (at + i) 0 + byteValues * k) (number-part d at n size (suc i) (omega arith))
-    ∙ ap (λ (k : ℕ). getD d (at + i) 0 + byteValues * numberAt size k d) (omega arith)
+pub param1-is : (w : List ℕ) (kind n : ℕ) → itemIn (words .stored w kind n) .param1 ≡ getD w 0 0 % clockValues
+unfolding itemIn itemOf encode pack layoutOf values numberAt bytesOf
+param1-is w kind n = omega arith
 
 -- ---- counting items by their command
 

@@ -1,16 +1,16 @@
-// Items in the store: where those of a kind stand, by the tables of document 01; storing one, reading two of its fields, and counting jumps.
+// Items in the store, eight words each: where those of a kind stand, by the tables of document 01; storing one, reading two of its fields, and counting jumps.
 ghost use mathlib.Core.Path.{_≡_};
 ghost use Prim.Native.Nat.{_+_, _≤_};
-ghost use lib.ListN.{length};
-ghost use Rattle.rules.specs.Limits.{rally, sizeOf, firstPlaceOf, itemBytes, storeBytes};
-ghost use Rattle.rules.specs.Messages.{itemIn};
+ghost use lib.ListN.{length, getD};
+ghost use Rattle.rules.specs.Limits.{rally, sizeOf, firstPlaceOf, itemWords, storeWords};
+ghost use Rattle.rules.specs.Words.{lastWord, commandIn};
 ghost use Rattle.rules.specs.Items.{jumpsAmong};
-ghost use Rattle.places.specs.Part.{part, put};
-ghost use Rattle.places.specs.Places.{offsetOf, itemsIn};
+ghost use Rattle.places.specs.Part.{put};
+ghost use Rattle.places.specs.Forms.{words, offsetOf, itemsIn};
 ghost use Rattle.places.specs.Stored.{withCommand};
 use limits::FENCE;
 use limits::FLIGHT;
-use limits::ITEM_BYTES;
+use limits::ITEM_WORDS;
 use limits::JUMP;
 use limits::RALLY;
 
@@ -39,51 +39,52 @@ fn first_place_of(kind: u8) -> u16
     }
 }
 
-// The store's byte at which the item with a number begins.
+// The store's word at which the item with a number begins.
 pub fn place_at(kind: u8, half: bool, n: u16) -> usize
-    ensures { λ r. ⌜ r ≡ offsetOf half kind n ⌝ }
+    ensures { λ r. ⌜ r ≡ offsetOf words half kind n ⌝ }
 {
     let place = first_place_of(kind) as usize + n as usize;
     if half {
-        return (HALF_PLACES + place) * ITEM_BYTES;
+        return (HALF_PLACES + place) * ITEM_WORDS;
     }
-    place * ITEM_BYTES
+    place * ITEM_WORDS
 }
 
-const COMMAND: usize = 30;
-
-// The 38 bytes from `at` become an item's; every other byte stays.
-pub fn put_item(store: &mut [u8], at: usize, bytes: [u8; ITEM_BYTES])
-    requires { ⌜ at + itemBytes ≤ length (now store) ⌝ }
-    ensures { λ r. ⌜ now (store .exit) ≡ put (now (store .entry)) at bytes ⌝ }
+// The eight words from `at` become an item's; every other word stays.
+pub fn put_item(store: &mut [u32], at: usize, item: [u32; ITEM_WORDS])
+    requires { ⌜ at + itemWords ≤ length (now store) ⌝ }
+    ensures { λ r. ⌜ now (store .exit) ≡ put (now (store .entry)) at item ⌝ }
 {
     let mut i: usize = 0;
-    while i < ITEM_BYTES {
-        store[at + i] = bytes[i];
+    while i < ITEM_WORDS {
+        store[at + i] = item[i];
         i += 1;
     }
 }
 
+// The last of an item's words has the command in its low half.
+const LAST_WORD: usize = ITEM_WORDS - 1;
+
 // The command of the item that begins at `at`.
-pub fn command_at(store: &[u8], at: usize) -> u16
-    requires { ⌜ at + itemBytes ≤ length (now store) ⌝ }
-    ensures { λ r. ⌜ r ≡ itemIn (part (now (store .entry)) at itemBytes) .command ⌝ }
+pub fn command_at(store: &[u32], at: usize) -> u16
+    requires { ⌜ at + itemWords ≤ length (now store) ⌝ }
+    ensures { λ r. ⌜ r ≡ commandIn (getD (now (store .entry)) (at + lastWord) 0) ⌝ }
 {
-    fields::u16_at(store, at + COMMAND)
+    (store[at + LAST_WORD] % 0x1_0000) as u16
 }
 
-// The bit pattern of its param 1, the first field.
-pub fn param1_at(store: &[u8], at: usize) -> u32
-    requires { ⌜ at + itemBytes ≤ length (now store) ⌝ }
-    ensures { λ r. ⌜ r ≡ itemIn (part (now (store .entry)) at itemBytes) .param1 ⌝ }
+// The bit pattern of its param 1, the first word.
+pub fn param1_at(store: &[u32], at: usize) -> u32
+    requires { ⌜ at + itemWords ≤ length (now store) ⌝ }
+    ensures { λ r. ⌜ r ≡ getD (now (store .entry)) at 0 ⌝ }
 {
-    fields::u32_at(store, at)
+    store[at]
 }
 
 // How many of the first n items of a kind in a half have a command.
-pub fn with_command(store: &[u8], kind: u8, half: bool, n: u16, command: u16) -> u16
-    requires { ⌜ (storeBytes ≤ length (now store)) × (kind ≤ rally) × (n ≤ sizeOf kind) ⌝ }
-    ensures { λ r. ⌜ r ≡ withCommand command (itemsIn (now (store .entry)) half kind n) ⌝ }
+pub fn with_command(store: &[u32], kind: u8, half: bool, n: u16, command: u16) -> u16
+    requires { ⌜ (storeWords ≤ length (now store)) × (kind ≤ rally) × (n ≤ sizeOf kind) ⌝ }
+    ensures { λ r. ⌜ r ≡ withCommand command (itemsIn words (now (store .entry)) half kind n) ⌝ }
 {
     let mut count: u16 = 0;
     let mut at = place_at(kind, half, 0);
@@ -92,16 +93,16 @@ pub fn with_command(store: &[u8], kind: u8, half: bool, n: u16, command: u16) ->
         if command_at(store, at) == command {
             count += 1;
         }
-        at += ITEM_BYTES;
+        at += ITEM_WORDS;
         i += 1;
     }
     count
 }
 
 // How many of them are jumps.
-pub fn jumps(store: &[u8], kind: u8, half: bool, n: u16) -> u16
-    requires { ⌜ (storeBytes ≤ length (now store)) × (kind ≤ rally) × (n ≤ sizeOf kind) ⌝ }
-    ensures { λ r. ⌜ r ≡ jumpsAmong (itemsIn (now (store .entry)) half kind n) ⌝ }
+pub fn jumps(store: &[u32], kind: u8, half: bool, n: u16) -> u16
+    requires { ⌜ (storeWords ≤ length (now store)) × (kind ≤ rally) × (n ≤ sizeOf kind) ⌝ }
+    ensures { λ r. ⌜ r ≡ jumpsAmong (itemsIn words (now (store .entry)) half kind n) ⌝ }
 {
     with_command(store, kind, half, n, JUMP)
 }

@@ -13,7 +13,7 @@ use limits::YAW;
 ghost use mathlib.Core.Path.{_≡_};
 ghost use Prim.Native.Nat.{_≤_, _<_};
 ghost use lib.ListN.{length, drop};
-ghost use Rattle.rules.specs.Limits.{flight, sizeOf, storeBytes};
+ghost use Rattle.rules.specs.Limits.{flight, sizeOf, storeWords};
 ghost use Rattle.rules.specs.Messages.{itemIn};
 ghost use Rattle.rules.specs.NextCommand.{commandOf, meets, searchFrom};
 ghost use Rattle.item.specs.Patterns.{itemFor, patterns};
@@ -70,7 +70,7 @@ fn jump_look(repeat: i32, target: u16, j: u16, runs: u16) -> Look
 
 // Item n of a plan of len items, with j jumps before it.
 fn look_at(store: &[u8], half: bool, len: u16, counts: [u16; JUMP_COUNTS], n: u16, j: u16) -> Look
-    requires { ⌜ (storeBytes ≤ length (now store)) × (len ≤ sizeOf flight) × (n < len) ⌝ }
+    requires { ⌜ (storeWords ≤ length (now store)) × (len ≤ sizeOf flight) × (n < len) ⌝ }
     ensures { λ r. ⌜ r ≡ lookAs len counts n j (itemIn (itemAt (now (store .entry)) half flight n)) ⌝ }
 {
     let item = storage::fetch(store, FLIGHT, half, n);
@@ -94,7 +94,7 @@ fn scan(
     from: u16,
     before: u16,
 ) -> Met
-    requires { ⌜ (storeBytes ≤ length (now store)) × (len ≤ sizeOf flight) ⌝ }
+    requires { ⌜ (storeWords ≤ length (now store)) × (len ≤ sizeOf flight) ⌝ }
     ensures { λ r. ⌜ r ≡ metFor (meets len counts (drop from (itemsIn (now (store .entry)) half flight len)) from before) ⌝ }
 {
     let mut n = from;
@@ -112,7 +112,7 @@ fn scan(
 
 // What a search from item n meets.
 pub fn meet(store: &[u8], half: bool, len: u16, counts: [u16; JUMP_COUNTS], n: u16) -> Met
-    requires { ⌜ (storeBytes ≤ length (now store)) × (len ≤ sizeOf flight) × (n ≤ sizeOf flight) ⌝ }
+    requires { ⌜ (storeWords ≤ length (now store)) × (len ≤ sizeOf flight) × (n ≤ sizeOf flight) ⌝ }
     ensures { λ r. ⌜ r ≡ metFor (searchFrom (itemsIn (now (store .entry)) half flight len) counts n) ⌝ }
 {
     let before = places::jumps(store, FLIGHT, half, n);

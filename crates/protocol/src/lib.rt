@@ -7,7 +7,7 @@ ghost use mathlib.Core.Bool.{true};
 ghost use mathlib.Core.List.{[], _∷_};
 ghost use Prim.Native.Nat.{ℕ, _≤_};
 ghost use lib.ListN.{length};
-ghost use Rattle.rules.specs.Limits.{rally, storeBytes, replyBytesMin};
+ghost use Rattle.rules.specs.Limits.{rally, storeWords, replyBytesMin};
 ghost use Rattle.rules.specs.Payload.{Bytes};
 ghost use Rattle.rules.specs.Layouts.{setCurrentId, clearAllId, ackId};
 ghost use Rattle.rules.specs.Messages.{station, decode};
@@ -80,7 +80,7 @@ fn turn(
     own: &[u8; OWN_BYTES],
     clock: u32,
 ) -> Handled
-    requires { ⌜ (kind ≤ rally) × PlanRanges kind plan × (storeBytes ≤ length (now store)) × (replyBytesMin ≤ length (now reply)) ⌝ }
+    requires { ⌜ (kind ≤ rally) × PlanRanges kind plan × (storeWords ≤ length (now store)) × (replyBytesMin ≤ length (now reply)) ⌝ }
     requires { ⌜ (isRead (decode id (now own)) ≡ true) × (id ≡ setCurrentId → ⊥) × (id ≡ clearAllId → ⊥) × (id ≡ ackId → ⊥) ⌝ }
     ensures { λ r. ⌜ DoneBy (planDone plan current (now (store .entry)) (station system component) clock kind (requestOf (decode id (now (own .entry))))) (now (store .exit)) (now (reply .entry)) (now (reply .exit)) r ⌝ }
 {
@@ -121,7 +121,7 @@ pub fn answer(
     own: &[u8; OWN_BYTES],
     clock: u32,
 ) -> Handled
-    requires { ⌜ IsPlanOf kind plan flight fence rally × (plansRanged flight fence rally ≡ true) × (storeBytes ≤ length (now store)) × (replyBytesMin ≤ length (now reply)) × (isRead (decode id (now own)) ≡ true) ⌝ }
+    requires { ⌜ IsPlanOf kind plan flight fence rally × (plansRanged flight fence rally ≡ true) × (storeWords ≤ length (now store)) × (replyBytesMin ≤ length (now reply)) × (isRead (decode id (now own)) ≡ true) ⌝ }
     ensures { λ r. ⌜ DoneBy (messageDone (flight ∷ fence ∷ rally ∷ []) current (now (store .entry)) (station system component) clock kind (requestOf (decode id (now (own .entry))))) (now (store .exit)) (now (reply .entry)) (now (reply .exit)) r ⌝ }
 {
     if !kind_ok(id, kind) {

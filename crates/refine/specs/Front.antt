@@ -7,7 +7,7 @@ use mathlib.Core.Bool.{Bool, true, not}
 use lib.ListN.{length, take, drop, length-drop}
 use lib.Seq.{take-append-le, drop-append-le}
 use borrow.Author.Tests.{leb-true}
-use Rattle.rules.specs.Limits.{flight, fence, rally, sizeOf, itemBytes, storeBytes}
+use Rattle.rules.specs.Limits.{flight, fence, rally, sizeOf, itemBytes, storeWords}
 use Rattle.rules.specs.Payload.{Bytes}
 use Rattle.rules.specs.Model.{running, inRange}
 use Rattle.rules.specs.Calls.{isKnown}
@@ -24,14 +24,14 @@ unfolding part
 part-front d e at n fits =
     ap (take n) (drop-append-le at d e (omega arith)) ∙ take-append-le n (drop at d) e (omega (arith, length-drop at d))
 
-items-front : (d e : Bytes) (half : Bool) (k n : ℕ) → storeBytes ≤ length d → k ≤ rally → n ≤ sizeOf k → itemsIn (d ++ e) half k n ≡ itemsIn d half k n
+items-front : (d e : Bytes) (half : Bool) (k n : ℕ) → storeWords ≤ length d → k ≤ rally → n ≤ sizeOf k → itemsIn (d ++ e) half k n ≡ itemsIn d half k n
 unfolding itemsIn itemAt
 items-front d e half k zero long known within = refl
 items-front d e half k (suc n) long known within =
     ap₂ (λ (l : List Bytes) (b : Bytes). l ++ (b ∷ [])) (items-front d e half k n long known (omega arith))
     (part-front d e (offsetOf half k n) itemBytes (omega (arith, offset-within half k n known (omega arith))))
 
-module _ (st : State) (lent rest : Bytes) (long : storeBytes ≤ length lent) (ranged : inRange (view st lent) ≡ true) where
+module _ (st : State) (lent rest : Bytes) (long : storeWords ≤ length lent) (ranged : inRange (view st lent) ≡ true) where
   plan-front : (k : ℕ) → isKnown k ≡ true → itemsIn (lent ++ rest) (planOf st k .half) k (planOf st k .len) ≡ itemsIn lent (planOf st k .half) k (planOf st k .len)
   plan-front k known = items-front lent rest (planOf st k .half) k (planOf st k .len) long (leb-true k rally known) (len-ranged st lent ranged k known)
 

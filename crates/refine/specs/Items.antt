@@ -10,7 +10,7 @@ use mathlib.Core.Bool.{Bool, true, not, cond, _&&_, Bool·not-not}
 use lib.ListN.{length, set}
 use lib.Dec.{eqb, leb, ltb}
 use borrow.Author.Tests.{leb-true, ltb-true, eqb-true, not-false}
-use Rattle.rules.specs.Limits.{flight, fence, rally, kinds, sizeOf, storeBytes, maxRepeats, accepted, invalid, invalidSequence, denied}
+use Rattle.rules.specs.Limits.{flight, fence, rally, kinds, sizeOf, storeWords, maxRepeats, accepted, invalid, invalidSequence, denied}
 use Rattle.rules.specs.Payload.{Bytes}
 use Rattle.rules.specs.Messages.{Station, Item, ack, itemOf, sameStation}
 use Rattle.rules.specs.Model as model
@@ -82,7 +82,7 @@ next-of Idle = 0
 next-of (Running r) = r .next
 
 -- a write at the next place of an upload's half leaves what is shown
-module _ (st : State) (s : Bytes) (long : storeBytes ≤ length s) (ranged : inRange (view st s) ≡ true)
+module _ (st : State) (s : Bytes) (long : storeWords ≤ length s) (ranged : inRange (view st s) ≡ true)
     (k : ℕ) (known : isKnown k ≡ true) (r : Run) (running-it : planOf st k .upload ≡ Running r) (item : Item) where
   abbrev s′ : Bytes
   s′ = putAt s (not (planOf st k .half)) k (r .next) (itemOf item)
@@ -244,7 +244,7 @@ module _ (st : State) (s : Bytes) (long : storeBytes ≤ length s) (ranged : inR
 
 -- an item of a known kind
 pub item-agrees :
-    (st : State) (s : Bytes) → length (st .plans) ≡ length kinds → storeBytes ≤ length s → inRange (view st s) ≡ true → (k : ℕ) → isKnown k ≡ true
+    (st : State) (s : Bytes) → length (st .plans) ≡ length kinds → storeWords ≤ length s → inRange (view st s) ≡ true → (k : ℕ) → isKnown k ≡ true
     → (from : Station) (now : ℕ) (item : Item)
     → Agree (afterItem st k from (itemTurned s k (planOf st k .upload) (planOf st k) from now item)) (onItem (model.uploadOf (view st s) k) (view st s) from now k item)
 unfolding itemTurned onItem uploadIn

@@ -7,7 +7,7 @@ use mathlib.Core.Bool.{Bool, true, false, not, cond, _||_}
 use lib.ListN.{length, getD, length-set, List·getD-eq-default}
 use lib.Dec.{eqb, ltb}
 use borrow.Author.Tests.{ltb-true, leb-false}
-use Rattle.rules.specs.Limits.{flight, fence, rally, kinds, everyKind, storeBytes}
+use Rattle.rules.specs.Limits.{flight, fence, rally, kinds, everyKind, storeWords}
 use Rattle.rules.specs.Payload.{Bytes}
 use Rattle.rules.specs.Messages.{Station, current, count, itemInt, itemIn}
 use Rattle.rules.specs.Model as model
@@ -157,7 +157,7 @@ module _ (st : State) (s : Bytes) (three : length (st .plans) ≡ length kinds) 
 
   -- ---- every message
 
-  module _ (long : storeBytes ≤ length s) (ranged : inRange (view st s) ≡ true) (from : Station) (now k : ℕ) where
+  module _ (long : storeWords ≤ length s) (ranged : inRange (view st s) ≡ true) (from : Station) (now k : ℕ) where
     known-agrees : (r : Request) → kindOk k r ≡ true → AgreeIn k (knownDone (st .plans) (st .current) s from now k r) (onKnown (view st s) from now k r)
     unfolding knownDone planDone onKnown kindOk
     known-agrees (chooses seq) ok = choose-agrees k seq

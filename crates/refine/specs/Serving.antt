@@ -5,7 +5,7 @@ use mathlib.Core.List.{List, [], _∷_, _++_}
 use mathlib.Core.Bool.{true}
 use lib.ListN.{length, getD, take, drop, length-set}
 use lib.Seq.{take-at}
-use Rattle.rules.specs.Limits.{kinds, storeBytes}
+use Rattle.rules.specs.Limits.{kinds, storeWords}
 use Rattle.rules.specs.Payload.{Bytes}
 use Rattle.rules.specs.Model.{inRange}
 use Rattle.rules.specs.NextCommand.{Found, nowhere, found, next, reach, advance, answerOf}
@@ -113,7 +113,7 @@ reached-plans st (found n counts c) = refl
 
 -- the code's step keeps the promise, whatever is heard
 done-by-steps :
-    (c : Call) (st : State) (s : Bytes) → Three st → inRange (view st s) ≡ true → storeBytes ≤ length s → CallFits c → (h : Heard)
+    (c : Call) (st : State) (s : Bytes) → Three st → inRange (view st s) ≡ true → storeWords ≤ length s → CallFits c → (h : Heard)
     → heard (inRange (view st s)) c ≡ h → Steps c st s (doneBy st s h)
 unfolding doneBy advance
 done-by-steps c st s three ranged long call (refuses outcome) e = refused-steps c st s outcome e
@@ -162,7 +162,7 @@ given c st s b d three steps reads =
 -- Every call that fits, lent a store that shows a model that fits, has a result that keeps the promise.
 pub result-exists :
     (c : Call) (st : State) (s b : Bytes) → Three st → length s ≡ storeLent c → CallFits c
-    → (inRange (view st s) ≡ true → storeBytes ≤ length s → ModelFits (view st s)) → Kept c st s b
+    → (inRange (view st s) ≡ true → storeWords ≤ length s → ModelFits (view st s)) → Kept c st s b
 unfolding doneBy
 result-exists c st s b three lent call fits = go (room-or-refused (inRange (view st s)) c)
   where
@@ -170,7 +170,7 @@ result-exists c st s b three lent call fits = go (room-or-refused (inRange (view
     go (none outcome e) = given c st s b (gives st s (refused outcome)) three (refused-steps c st s outcome e) tt
     go (enough ranged long) =
         let h = heard (inRange (view st s)) c in
-        let room : storeBytes ≤ length s = subst (λ (n : ℕ). storeBytes ≤ n) (sym lent) long in
+        let room : storeWords ≤ length s = subst (λ (n : ℕ). storeWords ≤ n) (sym lent) long in
         let d = doneBy st s h in
         let steps = done-by-steps c st s three ranged room call h refl in
         given c st s b d (done-three st s h three) steps

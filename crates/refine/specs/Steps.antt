@@ -8,7 +8,7 @@ use mathlib.Core.Bool.{Bool, true, false, true≢false, not, cond, _&&_, or-fals
 use lib.ListN.{length, getD, set, length-set}
 use lib.Dec.{eqb, leb, ltb}
 use borrow.Author.Tests.{leb-true, le-leb, eq-eqb, ne-eqb, eqb-true, ltb-false, leb-false, not-false}
-use Rattle.rules.specs.Limits.{flight, rally, kinds, everyKind, sizeOf, itemBytes, storeBytes, accepted, maxRepeats, expiryMs, lastNumber}
+use Rattle.rules.specs.Limits.{flight, rally, kinds, everyKind, sizeOf, itemBytes, storeWords, accepted, maxRepeats, expiryMs, lastNumber}
 use Rattle.rules.specs.Payload.{Bytes}
 use Rattle.rules.specs.Messages.{Station, Item, itemOf, sameStation}
 use Rattle.rules.specs.Model as model
@@ -191,7 +191,7 @@ outside at i e = go (leb at i) (ltb i (at + itemBytes)) refl refl
     go true false a b = inr (ltb-false i (at + itemBytes) b)
     go true true a b = absurd (true≢false (sym (ap₂ _&&_ a b) ∙ e))
 
-module _ (st : State) (s : Bytes) (long : storeBytes ≤ length s) (ranged : inRange (view st s) ≡ true) (k : ℕ) (known : isKnown k ≡ true) where
+module _ (st : State) (s : Bytes) (long : storeWords ≤ length s) (ranged : inRange (view st s) ≡ true) (k : ℕ) (known : isKnown k ≡ true) where
   -- a write at the upload's next place
   written : (r : Run) (item : Item) → planOf st k .upload ≡ Running r → Beside s (inPlace (not (planOf st k .half)) k (r .next)) (stored s k (planOf st k) r item)
   written r item runs =
@@ -238,7 +238,7 @@ module _ (st : State) (s : Bytes) (long : storeBytes ≤ length s) (ranged : inR
 
 -- ---- every message
 
-module _ (st : State) (s : Bytes) (three : length (st .plans) ≡ length kinds) (long : storeBytes ≤ length s) (ranged : inRange (view st s) ≡ true) (from : Station) (now k : ℕ) where
+module _ (st : State) (s : Bytes) (three : length (st .plans) ≡ length kinds) (long : storeWords ≤ length s) (ranged : inRange (view st s) ≡ true) (from : Station) (now k : ℕ) where
   abbrev DoneOk : Done → Type 0
   DoneOk d = EffectOk k (planOf st k) (d .effect)
 
@@ -350,7 +350,7 @@ heard-steps c st s h d ranged e agree halves answered beside =
 module _ (c : Call) (st : State) (s : Bytes) (three : length (st .plans) ≡ length kinds) (ranged : inRange (view st s) ≡ true) where
   -- a message that is not refused
   pub message-steps :
-      storeBytes ≤ length s → (from : Station) (now k : ℕ) (r : Request) → heard (inRange (view st s)) c ≡ request from now k r
+      storeWords ≤ length s → (from : Station) (now k : ℕ) (r : Request) → heard (inRange (view st s)) c ≡ request from now k r
       → Steps c st s (afterMessage st s from now k r)
   unfolding act
   message-steps long from now k r e =

@@ -6,7 +6,7 @@ use native.Mathlib.Omega.{arith}
 use lib.ListN.{length}
 use lib.Dec.{eqb, ltb}
 use borrow.Author.Tests.{ltb-false, leb-true, eqb-true, eqb-false, not-false, le-ltb, le-leb}
-use Rattle.rules.specs.Limits.{rally, storeBytes, replyBytesMin, shortStore, outOfRange, shortReply, emptyPayload, notRead, notForUs}
+use Rattle.rules.specs.Limits.{rally, storeWords, replyBytesMin, shortStore, outOfRange, shortReply, emptyPayload, notRead, notForUs}
 use Rattle.rules.specs.Payload.{Bytes}
 use Rattle.rules.specs.Messages.{Station, Message, setCurrent, current, requestList, count, clearAll, ack, requestInt, itemInt, statustext, unknown, decode}
 use Rattle.rules.specs.Calls.{message, timer, done, Request, chooses, asksList, announces, clears, acknowledges, asksItem, brings, Heard, refuses, request, expiry, commandDone, oursOrAll, forUs, heardMessage, heard, isKnown}
@@ -48,12 +48,12 @@ pub record HeadRead (id : ℕ) (p : Bytes) (read : Bool) (head : Head) : Type 0 
 -- 14, 15 and 10 in their order; 0 where there is room and every number is in its range
 unfoldable pub roomRefusal : (ranged : Bool) (store reply : ℕ) → ℕ
 roomRefusal ranged store reply =
-    cond (ltb store storeBytes) shortStore (cond (not ranged) outOfRange (cond (ltb reply replyBytesMin) shortReply 0))
+    cond (ltb store storeWords) shortStore (cond (not ranged) outOfRange (cond (ltb reply replyBytesMin) shortReply 0))
 
 -- a call that says h where it is not refused for room
 abbrev roomFor : (ranged : Bool) (store reply : ℕ) → Heard → Heard
 roomFor ranged store reply h =
-    cond (ltb store storeBytes) (refuses shortStore) (cond (not ranged) (refuses outOfRange) (cond (ltb reply replyBytesMin) (refuses shortReply) h))
+    cond (ltb store storeWords) (refuses shortStore) (cond (not ranged) (refuses outOfRange) (cond (ltb reply replyBytesMin) (refuses shortReply) h))
 
 -- whether a target is ours, or all
 abbrev pub isForUs : (own to : Station) → Bool
@@ -98,7 +98,7 @@ heard-by ranged own from id p clock store reply = rw (by-tests own from clock (d
 -- every number is in its range, and store and reply buffer are long enough
 pub record Room (ranged : Bool) (store reply : ℕ) : Type 0 where
   pub inRange : ranged ≡ true
-  pub long : storeBytes ≤ store
+  pub long : storeWords ≤ store
   pub room : replyBytesMin ≤ reply
 
 -- a message call: there is room, its message is read here, and it is the request of the decoded message
@@ -114,14 +114,14 @@ pub record HeardTimer (ranged : Bool) (kind clock store reply : ℕ) : Type 0 wh
 
 pub record HeardDone (ranged : Bool) (store : ℕ) : Type 0 where
   pub inRange : ranged ≡ true
-  pub long : storeBytes ≤ store
+  pub long : storeWords ≤ store
   pub says : heard ranged (done store) ≡ commandDone
 
 -- a refusal for room comes first; without one there is room, and what the call says decides
 pub refused-first : (ranged : Bool) (store reply : ℕ) (h : Heard) → (roomRefusal ranged store reply ≡ 0 → ⊥)
     → roomRefusal ranged store reply ≡ refusalOf (roomFor ranged store reply h)
 unfolding roomRefusal
-refused-first ranged store reply h = go (ltb store storeBytes) (not ranged) (ltb reply replyBytesMin)
+refused-first ranged store reply h = go (ltb store storeWords) (not ranged) (ltb reply replyBytesMin)
   where
     go : (a b c : Bool) → (cond a shortStore (cond b outOfRange (cond c shortReply 0)) ≡ 0 → ⊥)
         → cond a shortStore (cond b outOfRange (cond c shortReply 0)) ≡ refusalOf (cond a (refuses shortStore) (cond b (refuses outOfRange) (cond c (refuses shortReply) h)))
@@ -132,18 +132,18 @@ refused-first ranged store reply h = go (ltb store storeBytes) (not ranged) (ltb
 
 pub room-found : (ranged : Bool) (store reply : ℕ) → roomRefusal ranged store reply ≡ 0 → Room ranged store reply
 unfolding roomRefusal
-room-found ranged store reply e = go (ltb store storeBytes) (not ranged) (ltb reply replyBytesMin) refl refl refl e
+room-found ranged store reply e = go (ltb store storeWords) (not ranged) (ltb reply replyBytesMin) refl refl refl e
   where
-    go : (a b c : Bool) → ltb store storeBytes ≡ a → not ranged ≡ b → ltb reply replyBytesMin ≡ c
+    go : (a b c : Bool) → ltb store storeWords ≡ a → not ranged ≡ b → ltb reply replyBytesMin ≡ c
         → cond a shortStore (cond b outOfRange (cond c shortReply 0)) ≡ 0 → Room ranged store reply
     go true b c ea eb ec none = absurd (omega arith)
     go false true c ea eb ec none = absurd (omega arith)
     go false false true ea eb ec none = absurd (omega arith)
     go false false false ea eb ec none =
-        record { inRange = not-false ranged eb; long = ltb-false store storeBytes ea; room = ltb-false reply replyBytesMin ec }
+        record { inRange = not-false ranged eb; long = ltb-false store storeWords ea; room = ltb-false reply replyBytesMin ec }
 
 pub room-passed : (ranged : Bool) (store reply : ℕ) (h : Heard) → Room ranged store reply → roomFor ranged store reply h ≡ h
-room-passed ranged store reply h r = rw (le-ltb store storeBytes (r .long), r .inRange, le-ltb reply replyBytesMin (r .room))
+room-passed ranged store reply h r = rw (le-ltb store storeWords (r .long), r .inRange, le-ltb reply replyBytesMin (r .room))
 
 -- where nothing is refused there is room
 room-there : (ranged : Bool) (store reply : ℕ) (h : Heard) → refusalOf (roomFor ranged store reply h) ≡ 0 → Room ranged store reply
@@ -194,10 +194,10 @@ timer-heard ranged kind clock store reply e =
 
 pub done-heard : (ranged : Bool) (store : ℕ) → refusalOf (heard ranged (done store)) ≡ 0 → HeardDone ranged store
 unfolding heard
-done-heard ranged store e = go (ltb store storeBytes) (not ranged) refl refl e
+done-heard ranged store e = go (ltb store storeWords) (not ranged) refl refl e
   where
-    go : (a b : Bool) → ltb store storeBytes ≡ a → not ranged ≡ b → refusalOf (cond a (refuses shortStore) (cond b (refuses outOfRange) commandDone)) ≡ 0
+    go : (a b : Bool) → ltb store storeWords ≡ a → not ranged ≡ b → refusalOf (cond a (refuses shortStore) (cond b (refuses outOfRange) commandDone)) ≡ 0
         → HeardDone ranged store
     go true b ea eb none = absurd (omega arith)
     go false true ea eb none = absurd (omega arith)
-    go false false ea eb none = record { inRange = not-false ranged eb; long = ltb-false store storeBytes ea; says = rw (ea, eb) }
+    go false false ea eb none = record { inRange = not-false ranged eb; long = ltb-false store storeWords ea; says = rw (ea, eb) }

@@ -9,7 +9,7 @@ ghost use Rattle.refusal.specs.Refusals.{refusalOf, roomRefusal, HeadRea
 use limits::OUT_OF_RANGE;
 use limits::RALLY;
 use limits::REPLY_BYTES;
-use limits::STORE_BYTES;
+use limits::STORE_WORDS;
 use message_table::Head;
 
 const SHORT_REPLY: u8 = 10;
@@ -33,7 +33,7 @@ fn ours_or_all(own: u8, target: u8) -> bool
 pub fn done_refusal(ranged: bool, store_len: usize) -> u8
     ensures { λ r. ⌜ r ≡ refusalOf (heard ranged (done «store_len»)) ⌝ }
 {
-    if store_len < STORE_BYTES {
+    if store_len < STORE_WORDS {
         return SHORT_STORE;
     }
     if !ranged {

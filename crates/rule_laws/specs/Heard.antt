@@ -5,7 +5,7 @@ use mathlib.Core.Path.{_≡_}
 use mathlib.Core.Bool.{Bool, true, not, _&&_}
 use lib.ListN.{length}
 use lib.Dec.{eqb, ltb}
-use Rattle.rules.specs.Limits.{flight, storeBytes, replyBytesMin, byteValues, clockValues}
+use Rattle.rules.specs.Limits.{flight, storeWords, replyBytesMin, byteValues, clockValues}
 use Rattle.rules.specs.Payload.{Bytes, numberAt}
 use Rattle.rules.specs.Layouts.{layoutOf, values}
 use Rattle.rules.specs.Messages.{Station, station, Message, itemInt, messageOf, decode, itemIn}
@@ -63,12 +63,12 @@ module _ (own from : Station) (now : ℕ) (sender : StationFits from) (time : no
 pub heard-fits : (ranged : Bool) (c : Call) → CallFits c → HeardFits (heard ranged c)
 unfolding heard
 heard-fits ranged (message own from id payload clock store reply) (o, sender, small, now) =
-    either HeardFits (ltb store storeBytes) (λ e. tt)
+    either HeardFits (ltb store storeWords) (λ e. tt)
     (λ e. either HeardFits (not ranged) (λ e. tt)
     (λ e. either HeardFits (ltb reply replyBytesMin) (λ e. tt)
     (λ e. either HeardFits (eqb (length payload) 0) (λ e. tt) (λ e. decoded-fits own from clock sender now id payload small))))
 heard-fits ranged (timer kind clock store reply) h =
-    either HeardFits (ltb store storeBytes) (λ e. tt)
+    either HeardFits (ltb store storeWords) (λ e. tt)
     (λ e. either HeardFits (not ranged) (λ e. tt)
     (λ e. either HeardFits (ltb reply replyBytesMin) (λ e. tt) (λ e. either HeardFits (isKnown kind) (λ e. (e, h .1)) (λ e. tt))))
-heard-fits ranged (done store) h = either HeardFits (ltb store storeBytes) (λ e. tt) (λ e. either HeardFits (not ranged) (λ e. tt) (λ e. tt))
+heard-fits ranged (done store) h = either HeardFits (ltb store storeWords) (λ e. tt) (λ e. either HeardFits (not ranged) (λ e. tt) (λ e. tt))

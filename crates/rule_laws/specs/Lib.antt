@@ -1,4 +1,4 @@
--- Laws of the rules' definitions, proved here once for the crates above; reading back; that stored plans stay valid; and what a reading as a whole number
+-- Laws of the rules' definitions, proved here once for the crates above; reading back, also of words; that stored plans stay valid; and what a reading as a whole number
 -- means. Who reads the rules can pass the laws over.
 pub mod Tests
 pub mod Lists
@@ -9,6 +9,7 @@ pub mod Decode
 pub mod Kinds
 pub mod Written
 pub mod Heard
+pub mod Brought
 pub mod Fitting
 pub mod Fitted
 pub mod Replies
@@ -17,3 +18,4 @@ pub mod StayValid
 pub mod Valid
 pub mod Wholes
 pub mod ReadBack
+pub mod Words

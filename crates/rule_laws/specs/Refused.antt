@@ -4,7 +4,7 @@ use mathlib.Core.Path.{_≡_, refl, sym, _∙_}
 use mathlib.Core.Bool.{Bool, true, false, true≢false, not, cond, _&&_}
 use lib.Dec.{eqb, ltb}
 use borrow.Author.Tests.{ltb-false}
-use Rattle.rules.specs.Limits.{flight, sizeOf, maxRepeats, expiryMs, storeBytes, accepted, shortStore, outOfRange}
+use Rattle.rules.specs.Limits.{flight, sizeOf, maxRepeats, expiryMs, storeWords, accepted, shortStore, outOfRange}
 use Rattle.rules.specs.Payload.{Bytes}
 use Rattle.rules.specs.Messages.{Station, sameStation, Item, count, itemOf}
 use Rattle.rules.specs.Items.{jumpsAmong, fault}
@@ -87,17 +87,17 @@ timer-answered m u now kind = plain-answered (onTimer u m now kind .answer) (tim
 -- a call is refused, or no number of the state is out of its range and its part of the store is long enough
 pub data Room (ranged : Bool) (c : Call) : Type 0 where
   none : (outcome : ℕ) → heard ranged c ≡ refuses outcome → Room ranged c
-  enough : ranged ≡ true → storeBytes ≤ storeLent c → Room ranged c
+  enough : ranged ≡ true → storeWords ≤ storeLent c → Room ranged c
 
 room-by :
-    (ranged : Bool) (c : Call) (h : Heard) → heard ranged c ≡ cond (ltb (storeLent c) storeBytes) (refuses shortStore) (cond (not ranged) (refuses outOfRange) h)
+    (ranged : Bool) (c : Call) (h : Heard) → heard ranged c ≡ cond (ltb (storeLent c) storeWords) (refuses shortStore) (cond (not ranged) (refuses outOfRange) h)
     → Room ranged c
-room-by ranged c h e = go (ltb (storeLent c) storeBytes) ranged refl refl
+room-by ranged c h e = go (ltb (storeLent c) storeWords) ranged refl refl
   where
-    go : (short t : Bool) → ltb (storeLent c) storeBytes ≡ short → ranged ≡ t → Room ranged c
+    go : (short t : Bool) → ltb (storeLent c) storeWords ≡ short → ranged ≡ t → Room ranged c
     go true t short is = none shortStore (e ∙ rw short)
     go false false long is = none outOfRange (e ∙ rw (long, is))
-    go false true long is = enough is (ltb-false (storeLent c) storeBytes long)
+    go false true long is = enough is (ltb-false (storeLent c) storeWords long)
 
 pub room-or-refused : (ranged : Bool) (c : Call) → Room ranged c
 unfolding heard

@@ -7,7 +7,7 @@ use mathlib.Core.Bool.{Bool, true, false, not, cond, _&&_}
 use lib.ListN.{length, getD}
 use lib.Dec.{eqb, leb, ltb}
 use borrow.Author.Tests.{leb-true, ltb-true}
-use Rattle.rules.specs.Limits.{flight, fence, rally, sizeOf, storeBytes, maxJumps, maxRepeats, expiryMs, byteValues, clockValues, xLimit, yLimit, accepted, noSpace, invalid, invalidSequence, denied, cancelled, unsupported}
+use Rattle.rules.specs.Limits.{flight, fence, rally, sizeOf, storeWords, maxJumps, maxRepeats, expiryMs, byteValues, clockValues, xLimit, yLimit, accepted, noSpace, invalid, invalidSequence, denied, cancelled, unsupported}
 use Rattle.rules.specs.Messages.{Station, station, sameStation, Item, current, count, ack, itemOf}
 use Rattle.rules.specs.Values.{signed, within, float, finite}
 use Rattle.rules.specs.Items.{Row, commands, paramOk, frameOk, isJump, placeFault, roomFault, faultIn, faultAmong, fault, jumpsAmong}
@@ -196,9 +196,9 @@ act-good m commandDone fits ranged h = tt
 -- with a number out of its range every call is refused
 unranged-good : (m : Model) (c : Call) → Good (act m (heard false c))
 unfolding act heard
-unranged-good m (message own from id payload clock store reply) = either (λ (h : Heard). Good (act m h)) (ltb store storeBytes) (λ e. tt) (λ e. tt)
-unranged-good m (timer kind clock store reply) = either (λ (h : Heard). Good (act m h)) (ltb store storeBytes) (λ e. tt) (λ e. tt)
-unranged-good m (done store) = either (λ (h : Heard). Good (act m h)) (ltb store storeBytes) (λ e. tt) (λ e. tt)
+unranged-good m (message own from id payload clock store reply) = either (λ (h : Heard). Good (act m h)) (ltb store storeWords) (λ e. tt) (λ e. tt)
+unranged-good m (timer kind clock store reply) = either (λ (h : Heard). Good (act m h)) (ltb store storeWords) (λ e. tt) (λ e. tt)
+unranged-good m (done store) = either (λ (h : Heard). Good (act m h)) (ltb store storeWords) (λ e. tt) (λ e. tt)
 
 pub replies-fit : (m : Model) (c : Call) → ModelFits m → CallFits c → AnswerFits (step m c .answer)
 unfolding step

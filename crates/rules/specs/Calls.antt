@@ -3,12 +3,12 @@ use Prim.Native.Nat.{ℕ}
 use mathlib.Core.Bool.{Bool, not, cond, _&&_, _||_}
 use lib.ListN.{length}
 use lib.Dec.{eqb, leb, ltb}
-use Rattle.rules.specs.Limits.{flight, rally, storeBytes, replyBytesMin, shortStore, outOfRange, shortReply, emptyPayload, notRead, notForUs}
+use Rattle.rules.specs.Limits.{flight, rally, storeWords, replyBytesMin, shortStore, outOfRange, shortReply, emptyPayload, notRead, notForUs}
 use Rattle.rules.specs.Payload.{Bytes}
 use Rattle.rules.specs.Messages.{Station, Item, Message, setCurrent, current, requestList, count, clearAll, ack, requestInt, itemInt, statustext, unknown, decode}
 
 -- A call's arguments: "A message call adds own system and component, sender system and component, message id, payload and the
--- clock; a timer call, a kind and the clock." Of store and reply buffer the lengths.
+-- clock; a timer call, a kind and the clock." Of store and reply buffer the lengths: "outcome 14 now counts words" (M-106).
 pub data Call : Type 0 where
   message : (own from : Station) (id : ℕ) (payload : Bytes) (clock store reply : ℕ) → Call
   timer : (kind clock store reply : ℕ) → Call
@@ -78,14 +78,14 @@ isKnown kind = leb kind rally
 -- "Timer calls skip 11 and 13." "for them [command done] only 14 and 15 apply"
 unfoldable pub heard : (ranged : Bool) → Call → Heard
 heard ranged (message own from id payload clock store reply) =
-    cond (ltb store storeBytes) (refuses shortStore)
+    cond (ltb store storeWords) (refuses shortStore)
     (cond (not ranged) (refuses outOfRange)
     (cond (ltb reply replyBytesMin) (refuses shortReply)
     (cond (eqb (length payload) 0) (refuses emptyPayload)
     (heardMessage own from clock (decode id payload)))))
 heard ranged (timer kind clock store reply) =
-    cond (ltb store storeBytes) (refuses shortStore)
+    cond (ltb store storeWords) (refuses shortStore)
     (cond (not ranged) (refuses outOfRange)
     (cond (ltb reply replyBytesMin) (refuses shortReply)
     (cond (isKnown kind) (expiry clock kind) (refuses notRead))))
-heard ranged (done store) = cond (ltb store storeBytes) (refuses shortStore) (cond (not ranged) (refuses outOfRange) commandDone)
+heard ranged (done store) = cond (ltb store storeWords) (refuses shortStore) (cond (not ranged) (refuses outOfRange) commandDone)

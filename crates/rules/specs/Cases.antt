@@ -3,13 +3,14 @@ pub mod Starred
 pub mod Readings
 pub mod Guards
 pub mod Bounds
+pub mod Words
 use Prim.Native.Nat.{ℕ}
 use mathlib.Core.Path.{_≡_, refl, _∙_}
 use mathlib.Core.List.{List, [], _∷_, map}
 use mathlib.Core.Bool.{true, false}
 use lib.ListN.{replicate}
 use lib.Ieee.{ofBits}
-use Rattle.rules.specs.Limits.{storeBytes, replyBytesMin, flight, fence}
+use Rattle.rules.specs.Limits.{storeWords, replyBytesMin, flight, fence}
 use Rattle.rules.specs.Payload.{Bytes, numberAt, bytesOf, significant, trim}
 use Rattle.rules.specs.Layouts.{setCurrentId, requestListId, countId, clearAllId, ackId, requestIntId, itemIntId, layoutOf, values, pack}
 use Rattle.rules.specs.Messages.{Station, station, Item, Message, setCurrent, requestList, count, clearAll, ack, requestInt, itemInt, encode, messageOf, decode, itemOf, itemIn}
@@ -83,7 +84,7 @@ abbrev pub neighbour : Station
 neighbour = station 254 190
 
 abbrev pub sends : (from : Station) (clock id : ℕ) → Bytes → Call
-sends from clock id payload = handed payload (λ (p : Bytes). message vehicle from id p clock storeBytes replyBytesMin)
+sends from clock id payload = handed payload (λ (p : Bytes). message vehicle from id p clock storeWords replyBytesMin)
 
 abbrev pub sendsCount : (from : Station) (clock kind n : ℕ) → Call
 sendsCount from clock kind n = sends from clock countId (encode (count vehicle n kind 0))
@@ -107,18 +108,18 @@ abbrev pub setsCurrent : (from : Station) (seq : ℕ) → Call
 setsCurrent from seq = sends from 0 setCurrentId (encode (setCurrent vehicle seq))
 
 abbrev pub ticks : (clock kind : ℕ) → Call
-ticks clock kind = timer kind clock storeBytes replyBytesMin
+ticks clock kind = timer kind clock storeWords replyBytesMin
 
 abbrev pub finishes : Call
-finishes = done storeBytes
+finishes = done storeWords
 
 -- the answer to a call after a list of calls
 abbrev pub after : Model → List Call → Call → Answer
 after m calls c = handedModel (run m calls) (λ (n : Model). step n c .answer)
 
 -- so `sends` and `after` say no more than these
-sends-is : (from : Station) (clock id : ℕ) (payload : Bytes) → sends from clock id payload ≡ message vehicle from id payload clock storeBytes replyBytesMin
-sends-is from clock id payload = handed-is payload (λ (p : Bytes). message vehicle from id p clock storeBytes replyBytesMin)
+sends-is : (from : Station) (clock id : ℕ) (payload : Bytes) → sends from clock id payload ≡ message vehicle from id payload clock storeWords replyBytesMin
+sends-is from clock id payload = handed-is payload (λ (p : Bytes). message vehicle from id p clock storeWords replyBytesMin)
 
 after-is : (m : Model) (calls : List Call) (c : Call) → after m calls c ≡ step (run m calls) c .answer
 after-is m calls c = handedModel-is (run m calls) (λ (n : Model). step n c .answer)

@@ -42,10 +42,15 @@ expiryMs = 250
 abbrev pub maxFollowed : ℕ
 maxFollowed = 64
 
--- ---- the store: "2 x 352 x 38"; "Either half has flight from item place 0, fence from 256, rally from 320"
+-- ---- the store: "The store is 5,632 words (2 x 352 x 8)" (M-106); "Either half has flight from item place 0, fence from 256, rally from 320"
 
+-- "payload 73, all 38 bytes"
 abbrev pub itemBytes : ℕ
 itemBytes = 38
+
+-- "Keep each item as eight words"
+abbrev pub itemWords : ℕ
+itemWords = 8
 
 abbrev pub halfPlaces : ℕ
 halfPlaces = 352
@@ -57,8 +62,8 @@ firstPlaces = 0 ∷ 256 ∷ 320 ∷ []
 abbrev pub firstPlaceOf : ℕ → ℕ
 firstPlaceOf kind = getD firstPlaces kind 0
 
-abbrev pub storeBytes : ℕ
-storeBytes = 2 * halfPlaces * itemBytes
+abbrev pub storeWords : ℕ
+storeWords = 2 * halfPlaces * itemWords
 
 -- "Reply buffer 54 bytes"
 abbrev pub replyBytesMin : ℕ

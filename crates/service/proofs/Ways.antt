@@ -11,7 +11,7 @@ use lib.Dec.{ltb}
 use types.Run.{OneOf}
 use denote.Enum.Declared.{tagOf}
 use borrow.Author.Tests.{le-leb, leb-true, eq-eqb, ne-eqb}
-use Rattle.rules.specs.Limits.{flight, fence, rally, kinds, sizeOf, storeBytes, replyBytesMin, maxFollowed, maxRepeats, expiryMs, noReply}
+use Rattle.rules.specs.Limits.{flight, fence, rally, kinds, sizeOf, storeWords, replyBytesMin, maxFollowed, maxRepeats, expiryMs, noReply}
 use Rattle.rules.specs.Payload.{Bytes}
 use Rattle.rules.specs.Messages.{Station, Message, decode}
 use Rattle.rules.specs.Model as model
@@ -113,7 +113,7 @@ pub record MessageTaken (st : State) (s b : Bytes) (own from : Station) (id : �
   pub ranges : inRange (view st s) ≡ true
   pub plans : plansRanged (planOf st flight) (planOf st fence) (planOf st rally) ≡ true
   pub three : length (st .plans) ≡ length kinds
-  pub long : storeBytes ≤ length s
+  pub long : storeWords ≤ length s
   pub room : replyBytesMin ≤ length b
   pub read : isRead (decode id (got .own)) ≡ true
   pub says : heard (inRange (view st s)) (message own from id p clock (length s) (length b)) ≡ request from clock (got .head .kind) (requestOf (decode id (got .own)))
@@ -306,7 +306,7 @@ module _ (st : State) (s b : Bytes) (kind clock : ℕ) (taken : TimerTaken st s 
 pub record DoneTaken (st : State) (s : Bytes) : Type 0 where
   pub ranges : inRange (view st s) ≡ true
   pub three : length (st .plans) ≡ length kinds
-  pub long : storeBytes ≤ length s
+  pub long : storeWords ≤ length s
   pub len : planOf st flight .len ≤ sizeOf flight
   pub current : st .current < sizeOf flight
   pub says : heard (inRange (view st s)) (done (length s)) ≡ commandDone

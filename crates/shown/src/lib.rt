@@ -2,7 +2,7 @@
 ghost use mathlib.Core.Path.{_≡_};
 ghost use Prim.Native.Nat.{_≤_};
 ghost use lib.ListN.{length};
-ghost use Rattle.rules.specs.Limits.{rally, sizeOf, storeBytes, replyBytesMin};
+ghost use Rattle.rules.specs.Limits.{rally, sizeOf, storeWords, replyBytesMin};
 ghost use Rattle.rules.specs.Messages.{station};
 ghost use Rattle.rules.specs.Step.{currentField};
 ghost use Rattle.answers.specs.Answered.{Spoken, Handles};
@@ -59,7 +59,7 @@ pub fn request(
     component: u8,
     reply: &mut [u8],
 ) -> Said
-    requires { ⌜ (kind ≤ rally) × (plan .len ≤ sizeOf kind) × (storeBytes ≤ length (now store)) × (replyBytesMin ≤ length (now reply)) ⌝ }
+    requires { ⌜ (kind ≤ rally) × (plan .len ≤ sizeOf kind) × (storeWords ≤ length (now store)) × (replyBytesMin ≤ length (now reply)) ⌝ }
     ensures { λ r. ⌜ Spoken (requestAnswer plan current (now (store .entry)) (station system component) kind seq) (now (reply .entry)) (now (reply .exit)) r ⌝ }
 {
     if seq < plan.len {

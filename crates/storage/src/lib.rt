@@ -1,37 +1,109 @@
-// An item in the store: kept as its 38 bytes at its place, and fetched from there as a struct.
+// An item in the store: kept as its eight words at its place, and fetched from there as a struct. Its number and its kind are those of the place.
 ghost use mathlib.Core.Path.{_≡_};
+ghost use mathlib.Core.List.{[], _∷_};
 ghost use Prim.Native.Nat.{_≤_, _<_};
 ghost use lib.ListN.{length};
-ghost use Rattle.rules.specs.Limits.{rally, sizeOf, storeBytes};
-ghost use Rattle.rules.specs.Messages.{itemIn, itemOf};
+ghost use Rattle.rules.specs.Limits.{rally, sizeOf, itemWords, storeWords};
+ghost use Rattle.rules.specs.Messages.{itemIn};
+ghost use Rattle.rules.specs.Words.{wordsOf, itemOfWords, lastWordOf};
 ghost use Rattle.item.specs.Patterns.{itemFor, patterns};
-ghost use Rattle.places.specs.Places.{itemAt};
+ghost use Rattle.places.specs.Forms.{words, itemAt};
 ghost use Rattle.places.specs.Writes.{putAt};
+ghost use Rattle.storage.specs.Kept.{atPlace};
 use item::Item;
-use limits::ITEM_BYTES;
+use limits::ITEM_WORDS;
 use places::place_at;
 use places::put_item;
 
-// The address and the current field of a stored item.
-const NOBODY: u8 = 0;
+// Where the frame and the autocontinue begin in the last word, behind the command.
+const FRAME_UNIT: u32 = 0x1_0000;
 
-const NOT_CURRENT: u8 = 0;
+const AUTOCONTINUE_UNIT: u32 = 0x100_0000;
 
-// The item with a number, with its values.
-pub fn fetch(store: &[u8], kind: u8, half: bool, n: u16) -> Item
-    requires { ⌜ (storeBytes ≤ length (now store)) × (kind ≤ rally) × (n < sizeOf kind) ⌝ }
-    ensures { λ r. ⌜ r ≡ itemFor (itemIn (itemAt (now (store .entry)) half kind n)) ⌝ }
+const BYTE_VALUES: u32 = 0x100;
+
+// Command, frame and autocontinue in one word, lowest first.
+fn last_word(command: u16, frame: u8, autocontinue: u8) -> u32
+    ensures { λ r. ⌜ r ≡ lastWordOf command frame autocontinue ⌝ }
 {
-    let at = place_at(kind, half, n);
-    let end = at + ITEM_BYTES;
-    item::item_at(&store[at..end])
+    command as u32 + frame as u32 * FRAME_UNIT + autocontinue as u32 * AUTOCONTINUE_UNIT
 }
 
-// The item becomes the one with a number, and is fetched from there as it was kept; every other byte of the store stays.
-pub fn keep(store: &mut [u8], kind: u8, half: bool, n: u16, item: Item)
-    requires { ⌜ (storeBytes ≤ length (now store)) × (kind ≤ rally) × (n < sizeOf kind) ⌝ }
-    ensures { λ _. ⌜ (now (store .exit) ≡ putAt (now (store .entry)) half kind n (itemOf (patterns item))) × (itemIn (itemAt (now (store .exit)) half kind n) ≡ patterns item) ⌝ }
+// The item that eight words are as number n of a kind, with its values.
+pub fn from_words(
+    param1: u32,
+    param2: u32,
+    param3: u32,
+    param4: u32,
+    x: u32,
+    y: u32,
+    z: u32,
+    last: u32,
+    kind: u8,
+    n: u16,
+) -> Item
+    ensures { λ r. ⌜ r ≡ itemFor (itemOfWords (param1 ∷ param2 ∷ param3 ∷ param4 ∷ x ∷ y ∷ z ∷ last ∷ []) kind n) ⌝ }
 {
-    let bytes = item::item_bytes(NOBODY, NOBODY, NOT_CURRENT, item);
-    put_item(store, place_at(kind, half, n), bytes);
+    item::made(
+        param1,
+        param2,
+        param3,
+        param4,
+        x,
+        y,
+        z,
+        n,
+        (last % FRAME_UNIT) as u16,
+        (last / FRAME_UNIT % BYTE_VALUES) as u8,
+        (last / AUTOCONTINUE_UNIT % BYTE_VALUES) as u8,
+        kind,
+    )
+}
+
+// The same of eight words of a store.
+fn item_in(stored: &[u32], kind: u8, n: u16) -> Item
+    requires { ⌜ itemWords ≤ length (now stored) ⌝ }
+    ensures { λ r. ⌜ r ≡ itemFor (itemOfWords (now (stored .entry)) kind n) ⌝ }
+{
+    from_words(
+        stored[0],
+        stored[1],
+        stored[2],
+        stored[3],
+        stored[4],
+        stored[5],
+        stored[6],
+        stored[7],
+        kind,
+        n,
+    )
+}
+
+// The item with a number, with its values.
+pub fn fetch(store: &[u32], kind: u8, half: bool, n: u16) -> Item
+    requires { ⌜ (storeWords ≤ length (now store)) × (kind ≤ rally) × (n < sizeOf kind) ⌝ }
+    ensures { λ r. ⌜ r ≡ itemFor (itemIn (itemAt words (now (store .entry)) half kind n)) ⌝ }
+{
+    let at = place_at(kind, half, n);
+    let end = at + ITEM_WORDS;
+    item_in(&store[at..end], kind, n)
+}
+
+// The item becomes the one with a number, and is fetched from there as it was kept, with the number and the kind of the place; every other word of the store stays.
+pub fn keep(store: &mut [u32], kind: u8, half: bool, n: u16, item: Item)
+    requires { ⌜ (storeWords ≤ length (now store)) × (kind ≤ rally) × (n < sizeOf kind) ⌝ }
+    ensures { λ _. ⌜ (now (store .exit) ≡ putAt words (now (store .entry)) half kind n (wordsOf (patterns item))) × (itemIn (itemAt words (now (store .exit)) half kind n) ≡ atPlace kind n (patterns item)) ⌝ }
+{
+    let last = last_word(item.command, item.frame, item.autocontinue);
+    let kept = [
+        item.bits1,
+        item.bits2,
+        item.bits3,
+        item.bits4,
+        item.bits_x,
+        item.bits_y,
+        item.bits_z,
+        last,
+    ];
+    put_item(store, place_at(kind, half, n), kept);
 }

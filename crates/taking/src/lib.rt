@@ -3,7 +3,7 @@ ghost use mathlib.Core.Path.{_≡_};
 ghost use mathlib.Core.Bool.{true, cond};
 ghost use Prim.Native.Nat.{_≤_};
 ghost use lib.ListN.{length};
-ghost use Rattle.rules.specs.Limits.{rally, sizeOf, storeBytes};
+ghost use Rattle.rules.specs.Limits.{rally, sizeOf, storeWords};
 ghost use Rattle.rules.specs.Messages.{station};
 ghost use Rattle.rules.specs.Items.{fault, isJump, jumpsAmong};
 ghost use Rattle.rules.specs.Model.{wholeOk};
@@ -44,7 +44,7 @@ enum Judged {
 
 // The jumps among the first n items of a kind in a half, counted where the item is a jump; no other asks for room.
 fn jumps_before(store: &[u8], kind: u8, half: bool, n: u16, item: Item) -> u16
-    requires { ⌜ (storeBytes ≤ length (now store)) × (kind ≤ rally) × (n ≤ sizeOf kind) ⌝ }
+    requires { ⌜ (storeWords ≤ length (now store)) × (kind ≤ rally) × (n ≤ sizeOf kind) ⌝ }
     ensures { λ r. ⌜ r ≡ cond (isJump (patterns item)) (jumpsAmong (itemsIn (now (store .entry)) half kind n)) 0 ⌝ }
 {
     if item::is_jump(item) {
@@ -55,7 +55,7 @@ fn jumps_before(store: &[u8], kind: u8, half: bool, n: u16, item: Item) -> u16
 
 // The result for an item as the next of an upload whose items taken stand in a half.
 fn result_of(store: &[u8], kind: u8, half: bool, run: Run, item: Item) -> u8
-    requires { ⌜ (storeBytes ≤ length (now store)) × (kind ≤ rally) × InRange (sizeOf kind) run × (item ≡ itemFor (patterns item)) ⌝ }
+    requires { ⌜ (storeWords ≤ length (now store)) × (kind ≤ rally) × InRange (sizeOf kind) run × (item ≡ itemFor (patterns item)) ⌝ }
     ensures { λ r. ⌜ r ≡ fault kind (run .count) (run .next) (jumpsAmong (itemsIn (now (store .entry)) half kind (run .next))) (patterns item) ⌝ }
 {
     let before = jumps_before(store, kind, half, run.next, item);
@@ -72,7 +72,7 @@ fn judge_running(
     component: u8,
     item: Item,
 ) -> Judged
-    requires { ⌜ (storeBytes ≤ length (now store)) × (kind ≤ rally) × InRange (sizeOf kind) run × (item ≡ itemFor (patterns item)) ⌝ }
+    requires { ⌜ (storeWords ≤ length (now store)) × (kind ≤ rally) × InRange (sizeOf kind) run × (item ≡ itemFor (patterns item)) ⌝ }
     ensures { λ r. ⌜ r ≡ judgedAs (now (store .entry)) kind (Upload.Running run) plan (station system component) (patterns item) ⌝ }
 {
     if !is_from(run, system, component) {
@@ -89,7 +89,7 @@ fn judge_running(
 }
 
 fn judge(store: &[u8], kind: u8, plan: Plan, system: u8, component: u8, item: Item) -> Judged
-    requires { ⌜ (storeBytes ≤ length (now store)) × (kind ≤ rally) × (uploadRanged (sizeOf kind) (plan .upload) ≡ true) × (item ≡ itemFor (patterns item)) ⌝ }
+    requires { ⌜ (storeWords ≤ length (now store)) × (kind ≤ rally) × (uploadRanged (sizeOf kind) (plan .upload) ≡ true) × (item ≡ itemFor (patterns item)) ⌝ }
     ensures { λ r. ⌜ r ≡ judgedAs (now (store .entry)) kind (plan .upload) plan (station system component) (patterns item) ⌝ }
 {
     let upload = plan.upload;
@@ -101,7 +101,7 @@ fn judge(store: &[u8], kind: u8, plan: Plan, system: u8, component: u8, item: It
 
 // Whether the first n items of a kind in a half may become its plan: a fence keeps its rule.
 fn whole_ok(store: &[u8], kind: u8, half: bool, n: u16) -> bool
-    requires { ⌜ (storeBytes ≤ length (now store)) × (n ≤ sizeOf kind) ⌝ }
+    requires { ⌜ (storeWords ≤ length (now store)) × (n ≤ sizeOf kind) ⌝ }
     ensures { λ r. ⌜ r ≡ wholeOk kind (itemsIn (now (store .entry)) half kind n) ⌝ }
 {
     if kind == FENCE {
@@ -112,7 +112,7 @@ fn whole_ok(store: &[u8], kind: u8, half: bool, n: u16) -> bool
 
 // A valid item is in the store: the next is asked for, or after the last the plan is replaced.
 fn valid_turn(store: &[u8], kind: u8, plan: Plan, run: Run, clock: u32) -> Turned
-    requires { ⌜ (storeBytes ≤ length (now store)) × InRange (sizeOf kind) run ⌝ }
+    requires { ⌜ (storeWords ≤ length (now store)) × InRange (sizeOf kind) run ⌝ }
     ensures { λ r. ⌜ r ≡ validItemTurned (now (store .entry)) kind plan run clock .turned ⌝ }
 {
     let next = run.next + 1;
@@ -144,7 +144,7 @@ pub fn take_item(
     clock: u32,
     item: Item,
 ) -> Turned
-    requires { ⌜ (storeBytes ≤ length (now store)) × (kind ≤ rally) × (uploadRanged (sizeOf kind) (plan .upload) ≡ true) × (item ≡ itemFor (patterns item)) ⌝ }
+    requires { ⌜ (storeWords ≤ length (now store)) × (kind ≤ rally) × (uploadRanged (sizeOf kind) (plan .upload) ≡ true) × (item ≡ itemFor (patterns item)) ⌝ }
     ensures { λ r. ⌜ turnWith r (now (store .exit)) ≡ itemTurned (now (store .entry)) kind (plan .upload) plan (station system component) clock (patterns item) ⌝ }
 {
     let judged = judge(store, kind, plan, system, component, item);

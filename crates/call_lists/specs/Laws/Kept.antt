@@ -7,7 +7,7 @@ use mathlib.Core.Bool.{Bool, true, false, not, _&&_}
 use lib.ListN.{length, length-append, List·getD-eq-default}
 use lib.Dec.{eqb, leb, ltb}
 use borrow.Author.Tests.{leb-true, leb-false, ltb-true, ltb-false, le-leb, lt-ltb, eqb-true, eqb-false, not-false, not-true}
-use Rattle.rules.specs.Limits.{flight, rally, sizeOf, maxRepeats, expiryMs, accepted, storeBytes, replyBytesMin}
+use Rattle.rules.specs.Limits.{flight, rally, sizeOf, maxRepeats, expiryMs, accepted, storeWords, replyBytesMin}
 use Rattle.rules.specs.Payload.{Bytes}
 use Rattle.rules.specs.Messages.{Station, sameStation, Item, Message, setCurrent, current, requestList, count, clearAll, ack, requestInt, itemInt, statustext, unknown, decode, itemOf}
 use Rattle.rules.specs.Items.{jumpsAmong, fault}
@@ -167,15 +167,15 @@ module _ (own from : Station) (now : ℕ) where
 pub heard-known : (ranged : Bool) (c : Call) → HeardKnown (heard ranged c)
 unfolding heard
 heard-known ranged (message own from id payload clock store reply) =
-    either HeardKnown (ltb store storeBytes) (λ t. tt)
+    either HeardKnown (ltb store storeWords) (λ t. tt)
     (λ t. either HeardKnown (not ranged) (λ t. tt)
     (λ t. either HeardKnown (ltb reply replyBytesMin) (λ t. tt)
     (λ t. either HeardKnown (eqb (length payload) 0) (λ t. tt) (λ t. message-known own from clock (decode id payload)))))
 heard-known ranged (timer kind clock store reply) =
-    either HeardKnown (ltb store storeBytes) (λ t. tt)
+    either HeardKnown (ltb store storeWords) (λ t. tt)
     (λ t. either HeardKnown (not ranged) (λ t. tt)
     (λ t. either HeardKnown (ltb reply replyBytesMin) (λ t. tt) (λ t. either HeardKnown (isKnown kind) (λ k. k) (λ t. tt))))
-heard-known ranged (done store) = either HeardKnown (ltb store storeBytes) (λ t. tt) (λ t. either HeardKnown (not ranged) (λ t. tt) (λ t. tt))
+heard-known ranged (done store) = either HeardKnown (ltb store storeWords) (λ t. tt) (λ t. either HeardKnown (not ranged) (λ t. tt) (λ t. tt))
 
 act-kept : (m : Model) → Formed m → (h : Heard) → HeardKnown h → Kept (act m h)
 unfolding act

@@ -1,7 +1,7 @@
 -- The half decides by the branch; the rest is arithmetic over the table of first places.
 use native.Mathlib.Omega.{arith}
 use borrow.Author.Needs.{needs}
-use Rattle.places.specs.Places.{offsetOf, placeOf}
+use Rattle.places.specs.Forms.{offsetOf, placeOf}
 use Rattle.places.proofs.place_at.Statement.{statement}
 use Rattle.places.proofs.place_at.Tie as tie
 

@@ -1,4 +1,4 @@
--- The loop's invariant: the first i bytes are in place of the store's (`paste`).
+-- The loop's invariant: the first i words are in place of the store's (`paste`).
 use mathlib.Core.Path.{_≡_, _∙_, sym, ap}
 use mathlib.Core.List.{List, _++_}
 use Prim.Native.Nat.{ℕ, _≤_, _-_, _+_}
@@ -7,25 +7,31 @@ use native.Mathlib.Numerals.{add-one}
 use borrow.Author.Needs.{needs}
 use lib.ListN.{set, take, drop, length, getD}
 use lib.Seq.{paste, paste-zero, paste-suc, length-paste, take-length}
-use Rattle.rules.specs.Limits.{itemBytes}
+use Rattle.rules.specs.Limits.{itemWords}
 use Rattle.places.specs.Part.{put}
 use Rattle.places.proofs.put_item.Statement.{statement}
 use Rattle.places.proofs.put_item.Tie as tie
 
 abbrev Inv-loop : tie.InvT-loop
-Inv-loop store₀ at bytes i₀ store i = (i ≤ itemBytes) × (length bytes ≡ itemBytes) × (store ≡ paste store₀ at bytes i)
+Inv-loop store₀ at item i₀ store i = (i ≤ itemWords) × (length item ≡ itemWords) × (store ≡ paste store₀ at item i)
 
 abbrev μ-loop : tie.MeasureT-loop
-μ-loop store₀ at bytes i₀ store i = itemBytes - i
+μ-loop store₀ at item i₀ store i = itemWords - i
 
 loop-holds : tie.Need-loop-holds Inv-loop μ-loop
 loop-holds c = (omega arith, search needs, paste-zero (c .args .store .now) (c .args .at) (c .args .t3))
+
+mul-store : tie.Need-mul-store Inv-loop μ-loop
+mul-store c = omega arith
 
 array-read-store : tie.Need-array-read-store Inv-loop μ-loop
 array-read-store c = omega arith
 
 add-store : tie.Need-add-store Inv-loop μ-loop
 add-store c = omega arith
+
+mul-store-2 : tie.Need-mul-store-2 Inv-loop μ-loop
+mul-store-2 c = omega arith
 
 slice-write-store : tie.Need-slice-write-store Inv-loop μ-loop
 slice-write-store c =
@@ -73,8 +79,10 @@ put-item-spec =
     Inv-loop
     μ-loop
     loop-holds
+    mul-store
     array-read-store
     add-store
+    mul-store-2
     slice-write-store
     add-i
     loop-less

@@ -4,22 +4,22 @@ use mathlib.Core.Bool.{Bool, true, false, not}
 use Prim.Native.Nat.{ℕ, _<_, _≤_}
 use borrow.Author.Needs.{needs}
 use borrow.Author.Tests.{lt-ltb, le-ltb}
-use Rattle.rules.specs.Limits.{storeBytes, shortStore, outOfRange}
+use Rattle.rules.specs.Limits.{storeWords, shortStore, outOfRange}
 use Rattle.rules.specs.Calls.{done, heard}
 use Rattle.refusal.specs.Refusals.{refusalOf}
 use Rattle.refusal.proofs.done_refusal.Statement.{statement}
 use Rattle.refusal.proofs.done_refusal.Tie as tie
 
 module _ (ranged : Bool) (store : ℕ) where
-  short-store : store < storeBytes → shortStore ≡ refusalOf (heard ranged (done store))
+  short-store : store < storeWords → shortStore ≡ refusalOf (heard ranged (done store))
   unfolding heard
   short-store short = simp (lt-ltb _ _ short)
 
-  out-of-range : storeBytes ≤ store → not ranged ≡ true → outOfRange ≡ refusalOf (heard ranged (done store))
+  out-of-range : storeWords ≤ store → not ranged ≡ true → outOfRange ≡ refusalOf (heard ranged (done store))
   unfolding heard
   out-of-range long out = simp (le-ltb _ _ long, out)
 
-  passes : storeBytes ≤ store → not ranged ≡ false → 0 ≡ refusalOf (heard ranged (done store))
+  passes : storeWords ≤ store → not ranged ≡ false → 0 ≡ refusalOf (heard ranged (done store))
   unfolding heard
   passes long out = simp (le-ltb _ _ long, out)
 

@@ -5,7 +5,7 @@ use Prim.Native.Nat.{ℕ, _<_, _≤_}
 use lib.Dec.{ltb}
 use borrow.Author.Needs.{needs}
 use borrow.Author.Tests.{lt-ltb, le-ltb}
-use Rattle.rules.specs.Limits.{storeBytes, replyBytesMin, shortStore, outOfRange, shortReply}
+use Rattle.rules.specs.Limits.{storeWords, replyBytesMin, shortStore, outOfRange, shortReply}
 use Rattle.rules.specs.Calls.{refuses, commandDone, done, heard}
 use Rattle.refusal.specs.Refusals.{refusalOf, roomRefusal, HeardDone, done-heard}
 use Rattle.refusal.proofs.room_refusal.Statement.{statement}
@@ -14,7 +14,7 @@ use Rattle.refusal.proofs.room_refusal.Tie as tie
 module _ (ranged : Bool) (store reply first : ℕ) (by : first ≡ refusalOf (heard ranged (done store))) where
   earlier : (first ≡ 0 → ⊥) → first ≡ roomRefusal ranged store reply
   unfolding heard roomRefusal
-  earlier some = by ∙ go (ltb store storeBytes) (not ranged) (λ none. some (by ∙ none))
+  earlier some = by ∙ go (ltb store storeWords) (not ranged) (λ none. some (by ∙ none))
     where
       go : (a b : Bool) → (refusalOf (cond a (refuses shortStore) (cond b (refuses outOfRange) commandDone)) ≡ 0 → ⊥)
           → refusalOf (cond a (refuses shortStore) (cond b (refuses outOfRange) commandDone)) ≡ cond a shortStore (cond b outOfRange (cond (ltb reply replyBytesMin) shortReply 0))

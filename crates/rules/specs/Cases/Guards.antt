@@ -7,7 +7,7 @@ use mathlib.Core.Bool.{true, false}
 use lib.ListN.{replicate}
 use lib.IntN.{pos, negsuc}
 use lib.Ieee.{fin}
-use Rattle.rules.specs.Limits.{flight, fence, rally, storeBytes, replyBytesMin}
+use Rattle.rules.specs.Limits.{flight, fence, rally, storeWords, replyBytesMin}
 use Rattle.rules.specs.Payload.{Bytes}
 use Rattle.rules.specs.Layouts.{requestListId}
 use Rattle.rules.specs.Messages.{Station, station, Item, current, count, ack, requestInt, statustext}
@@ -64,7 +64,7 @@ camera = station 255 191
 
 -- REQUEST_LIST of flight to a system and a component, on a vehicle with these own numbers
 abbrev hears : (own : Station) (system component : ℕ) → Answer
-hears own system component = after fresh [] (message own tablet requestListId (system ∷ component ∷ []) 0 storeBytes replyBytesMin)
+hears own system component = after fresh [] (message own tablet requestListId (system ∷ component ∷ []) 0 storeWords replyBytesMin)
 
 -- jumps that are passed over, to item `target`
 abbrev passed : (n target : ℕ) → List Item

@@ -5,7 +5,7 @@ use mathlib.Core.Path.{refl}
 use mathlib.Core.List.{List, [], _∷_}
 use mathlib.Core.Bool.{true, false}
 use lib.ListN.{replicate}
-use Rattle.rules.specs.Limits.{flight, fence, rally, everyKind, storeBytes, replyBytesMin}
+use Rattle.rules.specs.Limits.{flight, fence, rally, everyKind, storeWords, replyBytesMin}
 use Rattle.rules.specs.Payload.{Bytes, trim}
 use Rattle.rules.specs.Layouts.{currentId, countId, clearAllId, ackId, requestIntId, statustextId}
 use Rattle.rules.specs.Messages.{station, count, ack, current, requestInt, itemInt, itemOf}
@@ -58,7 +58,7 @@ amongTraffic =
     ∷ sendsAck tablet fence 0
     ∷ sendsAck neighbour fence 1
     ∷ sendsCount neighbour 390 fence 0
-    ∷ message vehicle tablet countId (0x00 ∷ 0x00 ∷ 0x09 ∷ 0x01 ∷ 0x01 ∷ []) 395 storeBytes replyBytesMin
+    ∷ message vehicle tablet countId (0x00 ∷ 0x00 ∷ 0x09 ∷ 0x01 ∷ 0x01 ∷ []) 395 storeWords replyBytesMin
     ∷ sendsClear neighbour everyKind
     ∷ finishes
     ∷ sendsItem tablet 400 (circle 1)
@@ -69,17 +69,17 @@ readings =
     -- a COUNT and its first item start an upload, and what is shown stays
     (model (run flying (sendsCount tablet 100 fence 2 ∷ sendsItem tablet 120 (circle 0) ∷ [])) is model fencing)
     -- the order of refusals: 14, 15, 10, 11, 12, 13
-    ∷ (answer (after unranged [] (lent 26751 53 ackId [])) is answer (refused 14))
-    ∷ (answer (after unranged [] (lent 26752 53 ackId [])) is answer (refused 15))
-    ∷ (answer (after fresh [] (lent 26752 53 ackId [])) is answer (refused 10))
-    ∷ (answer (after fresh [] (lent 26752 54 42 [])) is answer (refused 11))
-    ∷ (answer (after fresh [] (lent 26752 54 currentId (0 ∷ 0 ∷ 9 ∷ 9 ∷ []))) is answer (refused 12))
-    ∷ (answer (after fresh [] (lent 26752 54 statustextId (0 ∷ []))) is answer (refused 12))
-    ∷ (answer (after fresh [] (lent 26752 54 300 (0 ∷ []))) is answer (refused 12))
-    ∷ (answer (after fresh [] (timer 3 0 26752 53)) is answer (refused 10))
-    ∷ (answer (after fresh [] (timer 3 0 26752 54)) is answer (refused 12))
-    ∷ (answer (after unranged [] (done 26752)) is answer (refused 15))
-    ∷ (answer (after unranged [] (done 26751)) is answer (refused 14))
+    ∷ (answer (after unranged [] (lent 5631 53 ackId [])) is answer (refused 14))
+    ∷ (answer (after unranged [] (lent 5632 53 ackId [])) is answer (refused 15))
+    ∷ (answer (after fresh [] (lent 5632 53 ackId [])) is answer (refused 10))
+    ∷ (answer (after fresh [] (lent 5632 54 42 [])) is answer (refused 11))
+    ∷ (answer (after fresh [] (lent 5632 54 currentId (0 ∷ 0 ∷ 9 ∷ 9 ∷ []))) is answer (refused 12))
+    ∷ (answer (after fresh [] (lent 5632 54 statustextId (0 ∷ []))) is answer (refused 12))
+    ∷ (answer (after fresh [] (lent 5632 54 300 (0 ∷ []))) is answer (refused 12))
+    ∷ (answer (after fresh [] (timer 3 0 5632 53)) is answer (refused 10))
+    ∷ (answer (after fresh [] (timer 3 0 5632 54)) is answer (refused 12))
+    ∷ (answer (after unranged [] (done 5632)) is answer (refused 15))
+    ∷ (answer (after unranged [] (done 5631)) is answer (refused 14))
     -- system and component are judged apart; missing target bytes are 0
     ∷ (answer (after fresh [] (sends tablet 0 requestIntId (0 ∷ 0 ∷ 0 ∷ 9 ∷ []))) is answer (refused 13))
     ∷ (answer (after fresh [] (sends tablet 0 requestIntId (0 ∷ 0 ∷ 9 ∷ []))) is answer (refused 13))
@@ -179,7 +179,7 @@ readings =
     -- Finished leaves everything as it was
     ∷ (shown (run flying (finishes ∷ finishes ∷ finishes ∷ []) .shown) is shown (run flying (finishes ∷ []) .shown))
     -- trimming keeps one byte
-    ∷ (bytes (replyBytes (after fresh [] (message vehicle (station 0 0) requestIntId (0 ∷ []) 0 storeBytes replyBytesMin))) is bytes (0 ∷ 0 ∷ 13 ∷ []))
+    ∷ (bytes (replyBytes (after fresh [] (message vehicle (station 0 0) requestIntId (0 ∷ []) 0 storeWords replyBytesMin))) is bytes (0 ∷ 0 ∷ 13 ∷ []))
     ∷ (bytes (trim (0 ∷ 0 ∷ [])) is bytes (0 ∷ []))
     -- an upload among other traffic takes effect at its last item, and not before
     ∷ (upload (uploadOf (run fresh amongTraffic) fence) is upload idle)

@@ -1,33 +1,44 @@
--- The item's place is in the store, the bytes put there are the item's stored form, and its fields fit by their types, so it reads back.
+-- The item's place is in the store, the words put there are the item's, and its fields fit by their types, so it reads back.
 use mathlib.Core.Path.{_≡_, ap, _∙_}
+use mathlib.Core.List.{List, [], _∷_}
 use mathlib.Core.Bool.{Bool}
 use Prim.Native.Nat.{ℕ, _≤_, _<_}
 use native.Mathlib.Omega.{arith}
 use lib.ListN.{length}
-use Rattle.rules.specs.Limits.{rally, sizeOf, storeBytes}
-use Rattle.rules.specs.Payload.{Bytes}
-use Rattle.rules.specs.Messages.{Item, station, itemInt, itemOf, itemIn}
-use Rattle.places.specs.Part.{put}
-use Rattle.places.specs.Places.{itemAt, offsetOf, offset-within}
-use Rattle.places.specs.Writes.{putAt}
-use Rattle.fields.specs.Packed.{BytesOf}
-use Rattle.storage.specs.Kept.{kept-fetched}
-use denote.Ref.{now}
+use Rattle.rules.specs.Limits.{rally, sizeOf, storeWords}
+use Rattle.rules.specs.Layouts.{layoutOf}
+use Rattle.rules.specs.Messages.{Item, station, itemInt, itemIn}
+use Rattle.rules.specs.Words.{lastWordOf, wordsOf}
+use Rattle.rule_laws.specs.Fitting.{Fits}
 use Rattle.item.specs.Patterns.{patterns}
+use Rattle.places.specs.Part.{put}
+use Rattle.places.specs.Forms.{Store, words, itemAt, offsetOf}
+use Rattle.places.specs.Places.{words-lawful, offset-within, sizes-short}
+use Rattle.places.specs.Writes.{putAt}
+use Rattle.storage.specs.Kept.{atPlace, kept-fetched}
+use denote.Ref.{now}
 use borrow.Author.Needs.{needs}
 use Rattle.storage.proofs.keep.Statement.{statement}
 use Rattle.storage.proofs.keep.Tie as tie
 
-put-there : (store after : Bytes) (half : Bool) (kind n at : ℕ) (bytes : Bytes) (i : Item) → storeBytes ≤ length store → kind ≤ rally → n < sizeOf kind
-    → at ≡ offsetOf half kind n → BytesOf (itemInt (station 0 0) 0 i) bytes → after ≡ put store at bytes
-    → (after ≡ putAt store half kind n (itemOf i)) × (itemIn (itemAt after half kind n) ≡ i)
-unfolding itemOf
-put-there store after half kind n at bytes i long known below place written is =
-    let there : after ≡ putAt store half kind n (itemOf i) = is ∙ ap (λ (k : ℕ). put store k bytes) place ∙ ap (put store (offsetOf half kind n)) (written .all) in
-    (there, ap (λ (s : Bytes). itemIn (itemAt s half kind n)) there ∙ kept-fetched store half kind n i long known below (written .fits))
+put-there : (store after : Store) (half : Bool) (kind n at last : ℕ) (i : Item) → storeWords ≤ length store → kind ≤ rally → n < sizeOf kind
+    → Fits (itemInt (station 0 0) 0 i) → at ≡ offsetOf words half kind n → last ≡ lastWordOf (i .command) (i .frame) (i .autocontinue)
+    → after ≡ put store at (i .param1 ∷ i .param2 ∷ i .param3 ∷ i .param4 ∷ i .x ∷ i .y ∷ i .z ∷ last ∷ [])
+    → (after ≡ putAt words store half kind n (wordsOf i)) × (itemIn (itemAt words after half kind n) ≡ atPlace kind n i)
+put-there store after half kind n at last i long known below fits place ending is =
+    let there : after ≡ putAt words store half kind n (wordsOf i) =
+    is
+    ∙ ap (λ (w : ℕ). put store at (i .param1 ∷ i .param2 ∷ i .param3 ∷ i .param4 ∷ i .x ∷ i .y ∷ i .z ∷ w ∷ [])) ending
+    ∙ ap (λ (k : ℕ). put store k (wordsOf i)) place in
+    (there, ap (λ (s : Store). itemIn (itemAt words s half kind n)) there ∙ kept-fetched i fits store half kind n long known below (omega (arith, sizes-short kind)))
 
-item-bytes-requires : tie.Need-item-bytes-requires
-item-bytes-requires c κs = search needs
+-- what the struct's type says of its numbers
+item-fits : (c : tie.Start) → Fits (itemInt (station 0 0) 0 (patterns (c .args .item)))
+unfolding layoutOf
+item-fits c = search needs
+
+last-word-requires : tie.Need-last-word-requires
+last-word-requires c κs = search needs
 
 place-at-requires : tie.Need-place-at-requires
 place-at-requires c κs = search needs
@@ -35,18 +46,17 @@ place-at-requires c κs = search needs
 put-item-requires : tie.Need-put-item-requires
 put-item-requires c κs =
     let a = c .before .before .before .before .args in
-    omega (arith, offset-within (a .half) (a .kind) (a .n) (search needs) (search needs))
+    omega (arith, offset-within words words-lawful (a .half) (a .kind) (a .n) (search needs) (search needs))
 
 same-length : tie.Need-same-length
 same-length c = search needs
 
 returns : tie.Need-returns
 returns c =
-    let a = c .before .before .before .before .before .before .before .args in
+    let start = c .before .before .before .before .before .before .before in
+    let a = start .args in
     put-there (now (a .store)) _ (a .half) (a .kind) (a .n) (c .before .before .before .place-at .result) _ (patterns (a .item)) (search needs) (search needs) (search needs)
-    (c .before .before .before .place-at .ensures) (c .before .before .before .before .before .item-bytes .ensures) (c .before .before .put-item .ensures)
+    (item-fits start) (c .before .before .before .place-at .ensures) (c .before .before .before .before .before .last-word .ensures) (c .before .before .put-item .ensures)
 
 pub keep-spec : {M : Type 1} → statement M
-keep-spec =
-    tie.close
-    (tie.spec item-bytes-requires place-at-requires put-item-requires same-length returns)
+keep-spec = tie.close (tie.spec last-word-requires place-at-requires put-item-requires same-length returns)

@@ -4,7 +4,7 @@ use mathlib.Core.Bool.{true, not}
 use Prim.Native.Nat.{ℕ, _≤_, _<_}
 use native.Mathlib.Omega.{arith}
 use lib.ListN.{length}
-use Rattle.rules.specs.Limits.{rally, sizeOf, storeBytes}
+use Rattle.rules.specs.Limits.{rally, sizeOf, storeWords}
 use Rattle.rules.specs.Payload.{Bytes}
 use Rattle.rules.specs.Messages.{Station, Item, itemOf}
 use Rattle.plan.specs.declared.Plan.{Plan}
@@ -57,8 +57,8 @@ module _ (s : Bytes) (kind : ℕ) (p : Plan) (from : Station) (now : ℕ) (item 
     place : (r : Run) (k : ℕ) → j ≡ Valid r → k ≤ r .next → k < sizeOf kind
     place r k e upto = let known = in-range r e in omega arith
 
-    long : (k : ℕ) (s′ : Bytes) → k < sizeOf kind → storeBytes ≤ length s → kind ≤ rally
-        → s′ ≡ putAt s (not (p .half)) kind k (itemOf item) → storeBytes ≤ length s′
+    long : (k : ℕ) (s′ : Bytes) → k < sizeOf kind → storeWords ≤ length s → kind ≤ rally
+        → s′ ≡ putAt s (not (p .half)) kind k (itemOf item) → storeWords ≤ length s′
     long k s′ fits enough known es =
         omega
         (arith, ap length es, length-stays s enough (itemOf item) (length-itemOf item) (not (p .half)) kind k known fits)
