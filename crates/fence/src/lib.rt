@@ -4,7 +4,7 @@ ghost use Prim.Native.Nat.{_≤_};
 ghost use lib.ListN.{length};
 ghost use Rattle.rules.specs.Limits.{fence, sizeOf, storeWords};
 ghost use Rattle.rules.specs.Fence.{fenceOk};
-ghost use Rattle.places.specs.Places.{itemsIn};
+ghost use Rattle.places.specs.Forms.{words, itemsIn};
 ghost use Rattle.fence.specs.FenceReading.{brokenReading, readingOf, readAs};
 use limits::FENCE;
 use limits::MAX_RETURN_POINTS;
@@ -75,9 +75,9 @@ fn read_item(reading: Reading, command: u16, vertices: u32) -> Reading
 }
 
 // Whether the first n fence items of a half keep the rule.
-pub fn fence_ok(store: &[u8], half: bool, n: u16) -> bool
+pub fn fence_ok(store: &[u32], half: bool, n: u16) -> bool
     requires { ⌜ (storeWords ≤ length (now store)) × (n ≤ sizeOf fence) ⌝ }
-    ensures { λ r. ⌜ r ≡ fenceOk (itemsIn (now (store .entry)) half fence n) ⌝ }
+    ensures { λ r. ⌜ r ≡ fenceOk (itemsIn words (now (store .entry)) half fence n) ⌝ }
 {
     let mut reading = Reading {
         broken: false,

@@ -3,13 +3,13 @@ use Prim.Native.Nat.{ℕ}
 use mathlib.Core.Path.{_≡_, refl, ap}
 use mathlib.Core.List.{List}
 use mathlib.Core.Bool.{Bool, true, false, cond}
-use Rattle.rules.specs.Payload.{Bytes}
+use Rattle.places.specs.Forms.{Store}
 use Rattle.rules.specs.Model.{Model}
 use Rattle.rules.specs.NextCommand.{answerOf, reach, found, nowhere}
 use Rattle.rules.specs.NextCommand as rules
 use Rattle.command.specs.declared.Command.{Command}
 use Rattle.plan.specs.declared.State.{State}
-use Rattle.plan.specs.View.{view}
+use Rattle.plan.specs.View.{viewIn, view}
 use Rattle.next_command.specs.declared.find.Found.{Found}
 use Rattle.plan_search.specs.Orders.{orderOf}
 use Rattle.next_command.specs.Finding.{foundOf}
@@ -19,7 +19,7 @@ abbrev afterDone : Model → Model
 afterDone m = record { shown = rules.advance (m .shown); uploads = m .uploads }
 
 -- state st′ and a command are what the call on st gives
-pub record OrderedBy (st : State) (store : Bytes) (st′ : State) (command : Command) : Type 0 where
+pub record OrderedBy (st : State) (store : Store) (st′ : State) (command : Command) : Type 0 where
   pub answer : orderOf command ≡ answerOf (rules.next (view st store .shown))
   pub shown : view st′ store ≡ afterDone (view st store)
   pub plans : st′ .plans ≡ st .plans
@@ -28,10 +28,10 @@ pub record OrderedBy (st : State) (store : Bytes) (st′ : State) (command : Com
 abbrev pub reachedState : State → (stands : Bool) (n : ℕ) (counts : List ℕ) → State
 reachedState st stands n counts = cond stands (record { plans = st .plans; current = n; begun = true; counts = counts }) st
 
-module _ (st : State) (store : Bytes) (n : ℕ) (counts : List ℕ) (c : rules.Command) where
+module _ (st : State) (store : Store) (n : ℕ) (counts : List ℕ) (c : rules.Command) where
   shows : (stands : Bool) → cond stands (found n counts c) (nowhere c) ≡ rules.next (view st store .shown)
       → view (reachedState st stands n counts) store ≡ afterDone (view st store)
-  unfolding view rules.advance reach
+  unfolding viewIn rules.advance reach
   shows true e = ap (λ (f : rules.Found). record { shown = reach f (view st store .shown); uploads = view st store .uploads }) e
   shows false e = ap (λ (f : rules.Found). record { shown = reach f (view st store .shown); uploads = view st store .uploads }) e
 
@@ -43,7 +43,7 @@ module _ (st : State) (store : Bytes) (n : ℕ) (counts : List ℕ) (c : rules.C
   same-plans true = refl
   same-plans false = refl
 
-pub reaches : (st : State) (store : Bytes) (f : Found) → foundOf f ≡ rules.next (view st store .shown)
+pub reaches : (st : State) (store : Store) (f : Found) → foundOf f ≡ rules.next (view st store .shown)
     → OrderedBy st store (reachedState st (f .stands) (f .n) (f .counts)) (f .command)
 unfolding foundOf
 reaches st store f e =

@@ -10,7 +10,7 @@ ghost use Prim.Native.Nat.{_+_, _≤_, _<_};
 ghost use lib.ListN.{length, getD, set};
 ghost use Rattle.rules.specs.Limits.{flight, sizeOf, storeWords, maxFollowed, maxRuns, maxJumps};
 ghost use Rattle.rules.specs.NextCommand as rules;
-ghost use Rattle.places.specs.Places.{itemsIn};
+ghost use Rattle.places.specs.Forms.{words, itemsIn};
 ghost use Rattle.next_command.specs.Finding.{foundOf, settledAs};
 
 // What a search finds: the answer and, where it stands at an item, that item and the counts.
@@ -63,9 +63,9 @@ fn counted(counts: [u16; JUMP_COUNTS], j: u16, up: bool) -> [u16; JUMP_COUNTS]
 }
 
 // The search from item n.
-pub fn find(store: &[u8], half: bool, len: u16, counts: [u16; JUMP_COUNTS], from: u16) -> Found
+pub fn find(store: &[u32], half: bool, len: u16, counts: [u16; JUMP_COUNTS], from: u16) -> Found
     requires { ⌜ (storeWords ≤ length (now store)) × (len ≤ sizeOf flight) × (from ≤ sizeOf flight) ⌝ }
-    ensures { λ r. ⌜ foundOf r ≡ rules.search maxFollowed (itemsIn (now (store .entry)) half flight len) counts from ⌝ }
+    ensures { λ r. ⌜ foundOf r ≡ rules.search maxFollowed (itemsIn words (now (store .entry)) half flight len) counts from ⌝ }
 {
     let mut runs = counts;
     let mut n = from;

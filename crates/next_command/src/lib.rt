@@ -11,7 +11,7 @@ ghost use Prim.Native.Nat.{_+_, _≤_, _<_};
 ghost use lib.ListN.{length};
 ghost use Rattle.rules.specs.Limits.{flight, sizeOf, storeWords, maxFollowed};
 ghost use Rattle.rules.specs.NextCommand.{search};
-ghost use Rattle.places.specs.Places.{itemsIn};
+ghost use Rattle.places.specs.Forms.{words, itemsIn};
 ghost use Rattle.next_command.specs.Finding.{foundOf};
 
 // The item at which the search begins.
@@ -27,14 +27,14 @@ fn start(current: u16, begun: bool) -> u16
 
 // What a "command done" call finds in the flight plan, from the current item on, or from the one behind it if it is begun.
 pub fn next(
-    store: &[u8],
+    store: &[u32],
     plan: Plan,
     current: u16,
     begun: bool,
     counts: [u16; JUMP_COUNTS],
 ) -> Found
     requires { ⌜ (storeWords ≤ length (now store)) × (plan .len ≤ sizeOf flight) × (current < sizeOf flight) ⌝ }
-    ensures { λ r. ⌜ foundOf r ≡ search maxFollowed (itemsIn (now (store .entry)) (plan .half) flight (plan .len)) counts (cond begun (current + 1) current) ⌝ }
+    ensures { λ r. ⌜ foundOf r ≡ search maxFollowed (itemsIn words (now (store .entry)) (plan .half) flight (plan .len)) counts (cond begun (current + 1) current) ⌝ }
 {
     let from = start(current, begun);
     find::find(store, plan.half, plan.len, counts, from)

@@ -17,7 +17,7 @@ ghost use Rattle.rules.specs.Limits.{flight, sizeOf, storeWords};
 ghost use Rattle.rules.specs.Messages.{itemIn};
 ghost use Rattle.rules.specs.NextCommand.{commandOf, meets, searchFrom};
 ghost use Rattle.item.specs.Patterns.{itemFor, patterns};
-ghost use Rattle.places.specs.Places.{itemAt, itemsIn};
+ghost use Rattle.places.specs.Forms.{words, itemAt, itemsIn};
 ghost use Rattle.plan_search.specs.Orders.{commandFor};
 ghost use Rattle.rule_laws.specs.Valid.{ServoFits};
 ghost use Rattle.plan_search.specs.Meeting.{metFor, lookAs, jumpAs};
@@ -69,9 +69,9 @@ fn jump_look(repeat: i32, target: u16, j: u16, runs: u16) -> Look
 }
 
 // Item n of a plan of len items, with j jumps before it.
-fn look_at(store: &[u8], half: bool, len: u16, counts: [u16; JUMP_COUNTS], n: u16, j: u16) -> Look
+fn look_at(store: &[u32], half: bool, len: u16, counts: [u16; JUMP_COUNTS], n: u16, j: u16) -> Look
     requires { ⌜ (storeWords ≤ length (now store)) × (len ≤ sizeOf flight) × (n < len) ⌝ }
-    ensures { λ r. ⌜ r ≡ lookAs len counts n j (itemIn (itemAt (now (store .entry)) half flight n)) ⌝ }
+    ensures { λ r. ⌜ r ≡ lookAs len counts n j (itemIn (itemAt words (now (store .entry)) half flight n)) ⌝ }
 {
     let item = storage::fetch(store, FLIGHT, half, n);
     if item_rules::verdict(item, FLIGHT, len, n, j) != ACCEPTED {
@@ -87,7 +87,7 @@ fn look_at(store: &[u8], half: bool, len: u16, counts: [u16; JUMP_COUNTS], n: u1
 
 // From item n on, with j jumps before it.
 fn scan(
-    store: &[u8],
+    store: &[u32],
     half: bool,
     len: u16,
     counts: [u16; JUMP_COUNTS],
@@ -95,7 +95,7 @@ fn scan(
     before: u16,
 ) -> Met
     requires { ⌜ (storeWords ≤ length (now store)) × (len ≤ sizeOf flight) ⌝ }
-    ensures { λ r. ⌜ r ≡ metFor (meets len counts (drop from (itemsIn (now (store .entry)) half flight len)) from before) ⌝ }
+    ensures { λ r. ⌜ r ≡ metFor (meets len counts (drop from (itemsIn words (now (store .entry)) half flight len)) from before) ⌝ }
 {
     let mut n = from;
     let mut j = before;
@@ -111,9 +111,9 @@ fn scan(
 }
 
 // What a search from item n meets.
-pub fn meet(store: &[u8], half: bool, len: u16, counts: [u16; JUMP_COUNTS], n: u16) -> Met
+pub fn meet(store: &[u32], half: bool, len: u16, counts: [u16; JUMP_COUNTS], n: u16) -> Met
     requires { ⌜ (storeWords ≤ length (now store)) × (len ≤ sizeOf flight) × (n ≤ sizeOf flight) ⌝ }
-    ensures { λ r. ⌜ r ≡ metFor (searchFrom (itemsIn (now (store .entry)) half flight len) counts n) ⌝ }
+    ensures { λ r. ⌜ r ≡ metFor (searchFrom (itemsIn words (now (store .entry)) half flight len) counts n) ⌝ }
 {
     let before = places::jumps(store, FLIGHT, half, n);
     scan(store, half, len, counts, n, before)

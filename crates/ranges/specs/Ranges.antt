@@ -5,15 +5,14 @@ use mathlib.Core.Bool.{Bool, true, _&&_, _||_, and-true, and-assoc}
 use Prim.Native.Nat.{ℕ}
 use lib.Dec.{eqb, leb, ltb}
 use Rattle.rules.specs.Limits.{flight, fence, rally, sizeOf, maxRepeats, maxRuns}
-use Rattle.rules.specs.Payload.{Bytes}
 use Rattle.rules.specs.Model.{every, inRange, uploadInRange}
 use Rattle.plan.specs.declared.State.{State}
 use Rattle.plan.specs.declared.Plan.{Plan}
 use Rattle.plan.specs.declared.Run.{Run}
 use Rattle.plan.specs.declared.Upload.{Upload}
 use Rattle.plan.specs.declared.Upload.the-variants.{Idle, Running}
-use Rattle.places.specs.Places.{length-items}
-use Rattle.plan.specs.View.{view, planOf, uploadIn}
+use Rattle.places.specs.Forms.{Store, Form, length-items}
+use Rattle.plan.specs.View.{viewIn, planOf, uploadIn}
 
 -- "a running upload's count 1 to size, its next number below its count, its repeats 0 to 5"
 abbrev pub runRanged : (size : ℕ) → Run → Bool
@@ -39,16 +38,17 @@ plansRanged p q r = planRanged (sizeOf flight) p && planRanged (sizeOf fence) q 
 abbrev pub allRanged : (flight fence rally : Plan) (current : ℕ) (counts : List ℕ) → Bool
 allRanged p q r current counts = plansRanged p q r && (ltb current (p .len) || eqb current 0) && countsRanged counts
 
-upload-ranged : (store : Bytes) (half : Bool) (kind : ℕ) (u : Upload) → uploadInRange kind (uploadIn store half kind u) ≡ uploadRanged (sizeOf kind) u
-unfolding uploadInRange uploadIn
-upload-ranged store half kind Idle = refl
-upload-ranged store half kind (Running r) = simp length-items
+module _ (F : Form) where
+  upload-ranged : (store : Store) (half : Bool) (kind : ℕ) (u : Upload) → uploadInRange kind (uploadIn F store half kind u) ≡ uploadRanged (sizeOf kind) u
+  unfolding uploadInRange uploadIn
+  upload-ranged store half kind Idle = refl
+  upload-ranged store half kind (Running r) = simp (length-items F)
 
-pub ranged-view : (st : State) (store : Bytes) → inRange (view st store) ≡ allRanged (planOf st flight) (planOf st fence) (planOf st rally) (st .current) (st .counts)
-unfolding inRange view planRanged countsRanged
-ranged-view st store = simp (length-items, upload-ranged, and-true, and-assoc)
+  pub ranged-view : (st : State) (store : Store) → inRange (viewIn F st store) ≡ allRanged (planOf st flight) (planOf st fence) (planOf st rally) (st .current) (st .counts)
+  unfolding inRange viewIn planRanged countsRanged
+  ranged-view st store = simp (length-items F, upload-ranged, and-true, and-assoc)
 
--- a test of a state's numbers is the rules' own of what it shows
-pub in-range : (st : State) (store : Bytes) (ranged : Bool) → ranged ≡ allRanged (planOf st flight) (planOf st fence) (planOf st rally) (st .current) (st .counts)
-    → ranged ≡ inRange (view st store)
-in-range st store ranged e = e ∙ sym (ranged-view st store)
+  -- a test of a state's numbers is the rules' own of what it shows
+  pub in-range : (st : State) (store : Store) (ranged : Bool) → ranged ≡ allRanged (planOf st flight) (planOf st fence) (planOf st rally) (st .current) (st .counts)
+      → ranged ≡ inRange (viewIn F st store)
+  in-range st store ranged e = e ∙ sym (ranged-view st store)

@@ -11,26 +11,26 @@ use Rattle.rules.specs.Limits.{flight}
 use Rattle.rules.specs.Payload.{Bytes}
 use Rattle.rules.specs.Items.{jumpsAmong}
 use Rattle.rules.specs.NextCommand.{meets, searchFrom}
-use Rattle.places.specs.Places.{itemsIn, length-items}
+use Rattle.places.specs.Forms.{Store, words, itemsIn, length-items}
 use Rattle.plan_search.specs.declared.Met.{Met}
 use Rattle.plan_search.specs.PlanItems.{items-until}
 use Rattle.plan_search.specs.Meeting.{metFor}
 use Rattle.plan_search.proofs.meet.Statement.{statement}
 use Rattle.plan_search.proofs.meet.Tie as tie
 
-module _ (store : Bytes) (half : Bool) (len : ℕ) (counts : List ℕ) (n before : ℕ) (eb : before ≡ jumpsAmong (itemsIn store half flight n)) where
+module _ (store : Store) (half : Bool) (len : ℕ) (counts : List ℕ) (n before : ℕ) (eb : before ≡ jumpsAmong (itemsIn words store half flight n)) where
   abbrev items : List Bytes
-  items = itemsIn store half flight len
+  items = itemsIn words store half flight len
 
   from-there : meets len counts (drop n items) n before ≡ searchFrom items counts n
   unfolding meets
   from-there = go (decLt len n)
     where
-      go : Dec (len < n) → meets len counts (drop n (itemsIn store half flight len)) n before ≡ searchFrom (itemsIn store half flight len) counts n
+      go : Dec (len < n) → meets len counts (drop n (itemsIn words store half flight len)) n before ≡ searchFrom (itemsIn words store half flight len) counts n
       go (no most) =
-          ap (meets len counts (drop n (itemsIn store half flight len)) n) (eb ∙ ap jumpsAmong (sym (items-until store half flight len n (omega arith))))
-          ∙ ap (λ (size : ℕ). meets size counts (drop n (itemsIn store half flight len)) n (jumpsAmong (take n (itemsIn store half flight len)))) (sym (length-items store half flight len))
-      go (yes past) = rw (drop-of-length-le (itemsIn store half flight len) {i = n} (omega (arith, length-items store half flight len)))
+          ap (meets len counts (drop n (itemsIn words store half flight len)) n) (eb ∙ ap jumpsAmong (sym (items-until store half flight len n (omega arith))))
+          ∙ ap (λ (size : ℕ). meets size counts (drop n (itemsIn words store half flight len)) n (jumpsAmong (take n (itemsIn words store half flight len)))) (sym (length-items words store half flight len))
+      go (yes past) = rw (drop-of-length-le (itemsIn words store half flight len) {i = n} (omega (arith, length-items words store half flight len)))
 
   met-there : (met : Met) → met ≡ metFor (meets len counts (drop n items) n before) → met ≡ metFor (searchFrom items counts n)
   met-there met e = e ∙ ap metFor from-there

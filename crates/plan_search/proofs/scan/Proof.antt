@@ -12,7 +12,7 @@ use Rattle.rules.specs.Limits.{flight}
 use Rattle.rules.specs.Payload.{Bytes}
 use Rattle.rules.specs.Messages.{itemIn}
 use Rattle.rules.specs.NextCommand.{meets}
-use Rattle.places.specs.Places.{itemAt, itemsIn, length-items}
+use Rattle.places.specs.Forms.{Store, words, itemAt, itemsIn, length-items}
 use Rattle.command.specs.declared.Command.the-variants.{Finished}
 use Rattle.plan_search.specs.declared.Met.{Met}
 use Rattle.plan_search.specs.declared.Met.the-variants.{Ends}
@@ -24,17 +24,17 @@ use Rattle.plan_search.proofs.scan.Statement.{statement}
 use Rattle.plan_search.proofs.scan.Tie as tie
 
 -- what is met from item n on
-abbrev metFrom : Bytes → Bool → (len : ℕ) (counts : List ℕ) (n j : ℕ) → Met
-metFrom store half len counts n j = metFor (meets len counts (drop n (itemsIn store half flight len)) n j)
+abbrev metFrom : Store → Bool → (len : ℕ) (counts : List ℕ) (n j : ℕ) → Met
+metFrom store half len counts n j = metFor (meets len counts (drop n (itemsIn words store half flight len)) n j)
 
-module _ (store : Bytes) (half : Bool) (len : ℕ) (counts : List ℕ) (n j : ℕ) (all : Met) (is : all ≡ metFrom store half len counts n j) where
-  module _ (below : n < len) (look : Look) (looked : look ≡ lookAs len counts n j (itemIn (itemAt store half flight n))) where
+module _ (store : Store) (half : Bool) (len : ℕ) (counts : List ℕ) (n j : ℕ) (all : Met) (is : all ≡ metFrom store half len counts n j) where
+  module _ (below : n < len) (look : Look) (looked : look ≡ lookAs len counts n j (itemIn (itemAt words store half flight n))) where
     one-step : all ≡ onwards look (metFrom store half len counts (n + 1) (j + 1))
     one-step =
-        let items = itemsIn store half flight len in
+        let items = itemsIn words store half flight len in
         is
         ∙ ap (λ (l : List Bytes). metFor (meets len counts l n j)) (items-from store half flight len n below)
-        ∙ meets-one len counts (itemAt store half flight n) (drop (suc n) items) n j
+        ∙ meets-one len counts (itemAt words store half flight n) (drop (suc n) items) n j
         ∙ ap (λ (l : Look). onwards l (metFrom store half len counts (suc n) (suc j))) (sym looked)
         ∙ ap (λ (k : ℕ). onwards look (metFrom store half len counts k (suc j))) (sym (add-one n))
         ∙ ap (λ (k : ℕ). onwards look (metFrom store half len counts (n + 1) k)) (sym (add-one j))
@@ -46,13 +46,13 @@ module _ (store : Bytes) (half : Bool) (len : ℕ) (counts : List ℕ) (n j : �
     met-later e = one-step ∙ ap (λ (l : Look). onwards l (metFrom store half len counts (n + 1) (j + 1))) e
 
     count-fits : look ≡ PassedOver → j + 1 < 65536
-    count-fits e = let room = over-room len counts n j (itemIn (itemAt store half flight n)) (sym looked ∙ e) in omega arith
+    count-fits e = let room = over-room len counts n j (itemIn (itemAt words store half flight n)) (sym looked ∙ e) in omega arith
 
   at-end : len ≤ n → Ends Finished ≡ all
   unfolding meets
   at-end past =
-      let items = itemsIn store half flight len in
-      sym (is ∙ ap (λ (l : List Bytes). metFor (meets len counts l n j)) (drop-of-length-le items {i = n} (omega (arith, length-items store half flight len))))
+      let items = itemsIn words store half flight len in
+      sym (is ∙ ap (λ (l : List Bytes). metFor (meets len counts l n j)) (drop-of-length-le items {i = n} (omega (arith, length-items words store half flight len))))
 
 abbrev Inv-loop : tie.InvT-loop
 Inv-loop store half len counts from before n₀ j₀ n j = metFrom store half len counts from before ≡ metFrom store half len counts n j

@@ -15,7 +15,7 @@ use Rattle.rules.specs.Payload.{Bytes}
 use Rattle.rules.specs.Items.{jumpsAmong}
 use Rattle.rules.specs.NextCommand.{searchFrom}
 use Rattle.rules.specs.NextCommand as rules
-use Rattle.places.specs.Places.{itemsIn, length-items}
+use Rattle.places.specs.Forms.{Store, words, itemsIn, length-items}
 use Rattle.plan_search.specs.declared.Met.{Met}
 use Rattle.plan_search.specs.declared.Met.the-variants.{Ends, Stands, Follows}
 use Rattle.next_command.specs.declared.find.Found.{Found}
@@ -31,10 +31,10 @@ no-jump (Ends c) tag j target up e = let z : _≡_ {A = ℕ} 0 1 = cc in omega a
 no-jump (Stands n c) tag j target up e = let z : _≡_ {A = ℕ} 0 1 = cc in omega arith
 no-jump (Follows k t b) tag j target up e = ⊎-elim (λ h. omega arith) (λ h. omega arith) tag
 
-module _ (store : Bytes) (half : Bool) (len : ℕ) (runs : List ℕ) (n left : ℕ) (all : rules.Found) (is : all ≡ rules.search left (itemsIn store half flight len) runs n)
-    (met : Met) (meets : met ≡ metFor (searchFrom (itemsIn store half flight len) runs n)) where
+module _ (store : Store) (half : Bool) (len : ℕ) (runs : List ℕ) (n left : ℕ) (all : rules.Found) (is : all ≡ rules.search left (itemsIn words store half flight len) runs n)
+    (met : Met) (meets : met ≡ metFor (searchFrom (itemsIn words store half flight len) runs n)) where
   abbrev items : List Bytes
-  items = itemsIn store half flight len
+  items = itemsIn words store half flight len
 
   module _ (some : 0 < left) where
     one-less : all ≡ rules.search (suc (left - 1)) items runs n
@@ -54,21 +54,21 @@ module _ (store : Bytes) (half : Bool) (len : ℕ) (runs : List ℕ) (n left : �
       let e : left ≡ zero = omega arith in
       er ∙ settles-last items runs n met meets ∙ sym (is ∙ ap (λ (k : ℕ). rules.search k items runs n) e)
 
-followed : (store : Bytes) (half : Bool) (len : ℕ) (runs : List ℕ) (n : ℕ) (met : Met) → met ≡ metFor (searchFrom (itemsIn store half flight len) runs n)
+followed : (store : Store) (half : Bool) (len : ℕ) (runs : List ℕ) (n : ℕ) (met : Met) → met ≡ metFor (searchFrom (itemsIn words store half flight len) runs n)
     → (j target : ℕ) (up : Bool) → met ≡ Follows j target up → Followed len runs j target up
 followed store half len runs n met meets j target up em =
-    let items = itemsIn store half flight len in
-    subst (λ (size : ℕ). Followed size runs j target up) (length-items store half flight len)
+    let items = itemsIn words store half flight len in
+    subst (λ (size : ℕ). Followed size runs j target up) (length-items words store half flight len)
     (follows-known (length items) runs (drop n items) n (jumpsAmong (take n items)) (sym meets ∙ em))
 
 -- the search follows as many jumps as the loop begins with
-begins : (store : Bytes) (half : Bool) (len : ℕ) (runs : List ℕ) (n left : ℕ) → left ≡ maxFollowed
-    → rules.search maxFollowed (itemsIn store half flight len) runs n ≡ rules.search left (itemsIn store half flight len) runs n
-begins store half len runs n left e = ap (λ (k : ℕ). rules.search k (itemsIn store half flight len) runs n) (sym e)
+begins : (store : Store) (half : Bool) (len : ℕ) (runs : List ℕ) (n left : ℕ) → left ≡ maxFollowed
+    → rules.search maxFollowed (itemsIn words store half flight len) runs n ≡ rules.search left (itemsIn words store half flight len) runs n
+begins store half len runs n left e = ap (λ (k : ℕ). rules.search k (itemsIn words store half flight len) runs n) (sym e)
 
 abbrev Inv-loop : tie.InvT-loop
 Inv-loop store half len from runs₀ n₀ left₀ runs n left =
-    (n ≤ sizeOf flight) × (rules.search maxFollowed (itemsIn store half flight len) runs₀ from ≡ rules.search left (itemsIn store half flight len) runs n)
+    (n ≤ sizeOf flight) × (rules.search maxFollowed (itemsIn words store half flight len) runs₀ from ≡ rules.search left (itemsIn words store half flight len) runs n)
 
 abbrev μ-loop : tie.MeasureT-loop
 μ-loop store half len from runs₀ n₀ left₀ runs n left = left
