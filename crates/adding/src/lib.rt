@@ -3,9 +3,10 @@
 mod parts;
 
 pub use parts::first;
-pub use parts::first_words;
 pub use parts::part;
+pub use parts::part_words;
 pub use parts::within;
+pub use parts::within_words;
 ghost use mathlib.Core.List.{[], _∷_};
 ghost use Rattle.adding.specs.Added.{Adds};
 

@@ -23,6 +23,25 @@ pub fn part(bytes: &[u8], from: usize, n: usize) -> &[u8]
     &bytes[start..]
 }
 
+// The same of words: a place among them, and those from a place on.
+pub fn within_words(at: usize, words: &[u32]) -> usize
+    ensures { λ r. ⌜ r ≡ min at (length (now (words .entry))) ⌝ }
+    ensures { λ r. ⌜ (r ≤ length (now (words .entry))) × (r ≡ length (take r (now (words .entry)))) ⌝ }
+{
+    if at < words.len() { at } else { words.len() }
+}
+
+pub fn part_words(words: &[u32], from: usize, n: usize) -> &[u32]
+    ensures { λ r. ⌜ now r ≡ take n (drop from (now (words .entry))) ⌝ }
+{
+    let start = within_words(from, words);
+    if n < words.len() - start {
+        let end = start + n;
+        return &words[start..end];
+    }
+    &words[start..]
+}
+
 // The first numbers of a list, or all where there are fewer.
 pub fn first(list: &[u64], n: usize) -> &[u64]
     ensures { λ r. ⌜ now r ≡ take n (now (list .entry)) ⌝ }
@@ -31,14 +50,4 @@ pub fn first(list: &[u64], n: usize) -> &[u64]
         return &list[..n];
     }
     list
-}
-
-// The same of words.
-pub fn first_words(words: &[u32], n: usize) -> &[u32]
-    ensures { λ r. ⌜ now r ≡ take n (now (words .entry)) ⌝ }
-{
-    if n < words.len() {
-        return &words[..n];
-    }
-    words
 }

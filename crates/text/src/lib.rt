@@ -3,11 +3,12 @@
 mod numerals;
 
 pub use adding::first;
-pub use adding::first_words;
 pub use adding::part;
+pub use adding::part_words;
 pub use adding::put;
 pub use adding::put_byte;
 pub use adding::within;
+pub use adding::within_words;
 pub use numerals::put_hex;
 pub use numerals::put_number;
 pub use numerals::put_numbers;
