@@ -5,8 +5,8 @@ use mathlib.Core.Bool.{Bool, true, false, not}
 use mathlib.Core.List.{List, [], _∷_}
 use mir.Val.{boolByte}
 use Rattle.rules.specs.Limits.{flight, fence, rally, outOfRange}
-use Rattle.rules.specs.Payload.{Bytes}
 use Rattle.rules.specs.Model.{inRange}
+use Rattle.places.specs.Forms.{Store}
 use Rattle.plan.specs.declared.State.{State}
 use Rattle.plan.specs.View.{planOf, view}
 use Rattle.adding.specs.Added.{Adds, each}
@@ -17,7 +17,7 @@ use Rattle.dump.specs.Plans.{kindText}
 use Rattle.dump.proofs.PlanWays.{flag-byte}
 use Rattle.dump.specs.Dumps.{currentLine, stateText, dumpText}
 
-module _ (st : State) (store : Bytes) (ranged : Bool) (is : ranged ≡ inRange (view st store)) where
+module _ (st : State) (store : Store) (ranged : Bool) (is : ranged ≡ inRange (view st store)) where
   pub out-of-range
       : (before after : List ℕ) (at r : ℕ) → ranged ≡ false → Adds (row 68 (outOfRange * boolByte (not ranged) ∷ [])) before at after r → Adds (dumpText st store) before at after r
   unfolding dumpText each decimalIn digit
@@ -47,7 +47,7 @@ module _ (before second third after : List ℕ) (at i j r : ℕ) where
   current-line current isBegun counts a b c = rw (← flag-byte isBegun) (adds-both a (adds-both b c))
 
 pub state-text
-    : (st : State) (store : Bytes) (before second third fourth after : List ℕ) (at i j k r : ℕ)
+    : (st : State) (store : Store) (before second third fourth after : List ℕ) (at i j k r : ℕ)
     → Adds (kindText flight (planOf st flight) store) before at second i
     → Adds (kindText fence (planOf st fence) store) second i third j
     → Adds (kindText rally (planOf st rally) store) third j fourth k

@@ -7,18 +7,19 @@ use Rattle.rules.specs.Model.{shownNumber}
 use Rattle.plan.specs.declared.Plan.{Plan}
 use Rattle.plan.specs.declared.Upload.{Upload}
 use Rattle.plan.specs.declared.Upload.the-variants.{Idle, Running}
-use Rattle.places.specs.Places.{itemAt}
+use Rattle.places.specs.Forms.{Store, words, itemAt}
 use Rattle.text.specs.Words.{ascii}
 use Rattle.rows.specs.Rows.{begun, row, line}
 
--- "`i K I BYTES` ..: the 38 bytes at the plan's place I", "`w K I BYTES` ..: the 38 bytes in the other half"
+-- "`i K I BYTES` ..: the 38 bytes at the plan's place I", "`w K I BYTES` ..: the 38 bytes in the other half". Of a store of words "it puts seq, kind and the
+-- zeros back"
 abbrev pub itemLine : (letter kind n : ℕ) → Bytes → Bytes
 itemLine letter kind n bytes = line (letter ∷ []) (kind ∷ n ∷ []) (ascii " ") bytes (ascii "\n")
 
 -- the lines of the first n items of a kind in a half
-unfoldable pub itemLines : (letter kind : ℕ) (half : Bool) → Bytes → (n : ℕ) → Bytes
+unfoldable pub itemLines : (letter kind : ℕ) (half : Bool) → Store → (n : ℕ) → Bytes
 itemLines letter kind half store zero = []
-itemLines letter kind half store (suc n) = itemLines letter kind half store n ++ itemLine letter kind n (itemAt store half kind n)
+itemLines letter kind half store (suc n) = itemLines letter kind half store n ++ itemLine letter kind n (itemAt words store half kind n)
 
 abbrev pub flag : Bool → ℕ
 flag b = cond b 1 0
@@ -38,5 +39,5 @@ unfoldable pub planLine : (kind : ℕ) → Plan → Bytes
 planLine kind p = row 107 (kind ∷ p .len ∷ p .number ∷ shownNumber (p .len) (p .number) ∷ flag (p .half) ∷ []) ++ uploadLine kind (p .upload)
 
 -- the items follow: `i` those of the plan, `w` those that the upload has brought, in the other half
-unfoldable pub kindText : (kind : ℕ) → Plan → Bytes → Bytes
+unfoldable pub kindText : (kind : ℕ) → Plan → Store → Bytes
 kindText kind p store = planLine kind p ++ (itemLines 105 kind (p .half) store (p .len) ++ itemLines 119 kind (not (p .half)) store (brought (p .upload)))

@@ -2,8 +2,8 @@
 mod plans;
 
 ghost use mathlib.Core.Path.{_≡_};
-ghost use Rattle.rules.specs.Payload.{Bytes};
 ghost use Rattle.rules.specs.Model.{inRange};
+ghost use Rattle.places.specs.Forms.{Store};
 ghost use Rattle.plan.specs.View.{view};
 ghost use Rattle.adding.specs.Added.{Adds};
 ghost use Rattle.dump.specs.Dumps.{currentLine, stateText, dumpText};
@@ -31,7 +31,7 @@ fn put_current(
     text::put_byte(out, end, b'\n')
 }
 
-fn put_state(out: &mut [u8], at: usize, state: State, store: &[u8]) -> usize
+fn put_state(out: &mut [u8], at: usize, state: State, store: &[u32]) -> usize
     ensures { λ r. ⌜ Adds (stateText state (now (store .entry))) (now (out .entry)) at (now (out .exit)) r ⌝ }
 {
     let plans = state.plans;
@@ -44,7 +44,7 @@ fn put_state(out: &mut [u8], at: usize, state: State, store: &[u8]) -> usize
 
 // Whether every number of a state is in its range, whatever the store holds.
 fn in_range(state: State) -> bool
-    ensures { λ r. ⌜ ((store : Bytes) → r ≡ inRange (view state store)) ⌝ }
+    ensures { λ r. ⌜ ((store : Store) → r ≡ inRange (view state store)) ⌝ }
 {
     let flight = state.plans[0];
     let fence = state.plans[1];
@@ -53,7 +53,7 @@ fn in_range(state: State) -> bool
 }
 
 // The whole dump; outcome 15 alone where a number of the state is out of its range.
-pub fn put_dump(out: &mut [u8], at: usize, state: State, store: &[u8]) -> usize
+pub fn put_dump(out: &mut [u8], at: usize, state: State, store: &[u32]) -> usize
     ensures { λ r. ⌜ Adds (dumpText state (now (store .entry))) (now (out .entry)) at (now (out .exit)) r ⌝ }
 {
     let ranged = in_range(state);

@@ -1,10 +1,43 @@
 // The lines of one kind in a dump: its plan, its upload, and the items of both.
 ghost use mathlib.Core.Path.{_≡_};
+ghost use lib.ListN.{getD};
+ghost use Rattle.rules.specs.Messages.{itemOf};
+ghost use Rattle.rules.specs.Words.{itemOfWords};
 ghost use Rattle.adding.specs.Added.{Adds};
 ghost use Rattle.dump.specs.Plans.{itemLine, itemLines, brought as Plans·brought, uploadLine, planLine, kindText};
 use limits::ITEM_BYTES;
+use limits::ITEM_WORDS;
 use plan::Plan;
 use plan::Upload;
+
+// A word of some, or 0 past their end.
+fn word(words: &[u32], at: usize) -> u32
+    ensures { λ r. ⌜ r ≡ getD (now (words .entry)) at 0 ⌝ }
+{
+    if at < words.len() {
+        return words[at];
+    }
+    0
+}
+
+// The bytes of the item that words of a store are as number n of a kind. System, component and current are 0.
+fn stored_item(words: &[u32], kind: u8, n: u16) -> [u8; ITEM_BYTES]
+    ensures { λ r. ⌜ r ≡ itemOf (itemOfWords (now (words .entry)) kind n) ⌝ }
+{
+    let item = storage::from_words(
+        word(words, 0),
+        word(words, 1),
+        word(words, 2),
+        word(words, 3),
+        word(words, 4),
+        word(words, 5),
+        word(words, 6),
+        word(words, 7),
+        kind,
+        n,
+    );
+    item::item_bytes(0, 0, 0, item)
+}
 
 // The line of the item with a number: its bytes.
 fn put_item(out: &mut [u8], at: usize, letter: u8, kind: u8, n: u16, bytes: &[u8]) -> usize
@@ -22,7 +55,7 @@ fn put_items(
     kind: u8,
     half: bool,
     count: u16,
-    store: &[u8],
+    store: &[u32],
 ) -> usize
     ensures { λ r. ⌜ Adds (itemLines letter kind half (now (store .entry)) count) (now (out .entry)) at (now (out .exit)) r ⌝ }
 {
@@ -30,8 +63,8 @@ fn put_items(
     let mut n: u16 = 0;
     while n < count {
         let first = places::place_at(kind, half, n);
-        let bytes = text::part(store, first, ITEM_BYTES);
-        end = put_item(out, end, letter, kind, n, bytes);
+        let bytes = stored_item(text::part_words(store, first, ITEM_WORDS), kind, n);
+        end = put_item(out, end, letter, kind, n, &bytes);
         n += 1;
     }
     end
@@ -86,7 +119,7 @@ fn put_plan(out: &mut [u8], at: usize, kind: u8, plan: Plan) -> usize
 }
 
 // The plan of a kind, its upload, and the items of both.
-pub fn put_kind(out: &mut [u8], at: usize, kind: u8, plan: Plan, store: &[u8]) -> usize
+pub fn put_kind(out: &mut [u8], at: usize, kind: u8, plan: Plan, store: &[u32]) -> usize
     ensures { λ r. ⌜ Adds (kindText kind plan (now (store .entry))) (now (out .entry)) at (now (out .exit)) r ⌝ }
 {
     let upload = plan.upload;

@@ -1,11 +1,12 @@
 -- Records of a call script, and when one can be played. "A script is a row of records. Each record is a header of exactly 24 bytes and then
 -- `len` payload bytes. All numbers are little-endian and unsigned."
-use Prim.Native.Nat.{ℕ, _+_, _/_, _%_}
+use Prim.Native.Nat.{ℕ, _+_, _*_, _/_, _%_}
 use mathlib.Core.Bool.{Bool, not, _&&_, _||_, cond}
 use lib.Dec.{eqb, ltb, leb}
 use lib.ListN.{length, getD}
-use Rattle.rules.specs.Limits.{rally, sizeOf, maxJumps}
+use Rattle.rules.specs.Limits.{rally, sizeOf, maxJumps, itemWords}
 use Rattle.rules.specs.Payload.{Bytes, numberAt}
+use Rattle.writing.specs.Written.{wordBytes}
 use Rattle.script.specs.declared.Record.{Record}
 use Rattle.script.specs.declared.Next.{Next}
 use Rattle.script.specs.declared.Next.the-variants.{Play, End, Cut, Bad}
@@ -26,12 +27,9 @@ oldArray = 26880
 abbrev pub replyArray : ℕ
 replyArray = 64
 
--- "a row of words, four bytes each"; "whole items only, 32 bytes each"
-abbrev pub wordBytes : ℕ
-wordBytes = 4
-
+-- "whole items only, 32 bytes each"
 abbrev pub storedBytes : ℕ
-storedBytes = 32
+storedBytes = itemWords * wordBytes
 
 unfoldable pub recordIn : Bytes → Record
 recordIn p =

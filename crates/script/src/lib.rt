@@ -6,8 +6,10 @@ ghost use lib.ListN.{length};
 ghost use Rattle.script.specs.Records.{headerBytes, recordIn, pokeFits, wordsFit, itemsFit, bytesFit, writeFits, fits as Records·fits, nextIn};
 use fields::u16_at;
 use fields::u32_at;
+use limits::ITEM_WORDS;
 use limits::JUMP_COUNTS;
 use limits::RALLY;
+use writing::WORD_BYTES;
 
 // The types of records.
 pub const END: u8 = 0;
@@ -55,10 +57,8 @@ pub const OLD_ARRAY: usize = 26880;
 
 pub const REPLY_ARRAY: usize = 64;
 
-// The bytes of a word, and of an item as words.
-const WORD_BYTES: usize = 4;
-
-const STORED_BYTES: usize = 32;
+// The bytes of an item as words.
+const STORED_BYTES: usize = ITEM_WORDS * WORD_BYTES;
 
 // A record's header; store and reply are the lengths lent to the call.
 pub struct Record {

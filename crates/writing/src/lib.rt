@@ -2,7 +2,7 @@
 ghost use mathlib.Core.Path.{_≡_};
 ghost use Rattle.writing.specs.Written.{written, wordsWritten};
 
-const WORD_BYTES: usize = 4;
+pub const WORD_BYTES: usize = 4;
 
 // Bytes go into the store from a place on, where all of them fit.
 pub fn write(store: &mut [u8], at: usize, payload: &[u8])

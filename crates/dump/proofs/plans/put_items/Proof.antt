@@ -24,8 +24,14 @@ loop-holds c = search (adds-nothing, needs)
 place-at-requires : tie.Need-place-at-requires Inv-loop μ-loop
 place-at-requires c κs = search needs
 
-part-requires : tie.Need-part-requires Inv-loop μ-loop
-part-requires c κs = search needs
+part-words-requires : tie.Need-part-words-requires Inv-loop μ-loop
+part-words-requires c κs = search needs
+
+stored-item-requires : tie.Need-stored-item-requires Inv-loop μ-loop
+stored-item-requires c κs = search needs
+
+slice-aggregate-put-item : tie.Need-slice-aggregate-put-item Inv-loop μ-loop
+slice-aggregate-put-item c = search needs
 
 put-item-requires : tie.Need-put-item-requires Inv-loop μ-loop
 put-item-requires c κs = search needs
@@ -54,7 +60,9 @@ put-items-spec =
     within-requires
     loop-holds
     place-at-requires
-    part-requires
+    part-words-requires
+    stored-item-requires
+    slice-aggregate-put-item
     put-item-requires
     add-n
     loop-less
