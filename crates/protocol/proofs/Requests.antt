@@ -13,6 +13,7 @@ use Rattle.rule_laws.specs.Tests.{either}
 use Rattle.rules.specs.Calls.{isKnown}
 use Rattle.rules.specs.Step.{kindOk}
 use Rattle.message_table.specs.Table.{isRead}
+use Rattle.places.specs.Forms.{Store, words}
 use Rattle.plan.specs.declared.Plan.{Plan}
 use Rattle.refusal.specs.Refusals.{requestOf}
 use Rattle.protocol.specs.Doing.{planAmong, planDone, knownDone}
@@ -54,8 +55,8 @@ item-left id p read n41 n43 n44 n45 n47 n51 =
     P m = isRead m ≡ true → id ≡ itemIntId
 
 -- every message but SET_CURRENT and CLEAR_ALL speaks of the plan of its kind
-pub of-one-plan : (ps : List Plan) (current : ℕ) (s : Bytes) (from : Station) (now kind id : ℕ) (p : Bytes) → (id ≡ setCurrentId → ⊥) → (id ≡ clearAllId → ⊥)
-    → knownDone ps current s from now kind (requestOf (decode id p)) ≡ planDone (planAmong ps kind) current s from now kind (requestOf (decode id p))
+pub of-one-plan : (ps : List Plan) (current : ℕ) (s : Store) (from : Station) (now kind id : ℕ) (p : Bytes) → (id ≡ setCurrentId → ⊥) → (id ≡ clearAllId → ⊥)
+    → knownDone words ps current s from now kind (requestOf (decode id p)) ≡ planDone words (planAmong ps kind) current s from now kind (requestOf (decode id p))
 unfolding decode messageOf knownDone
 of-one-plan ps current s from now kind id p n41 n45 =
     either P (eqb id setCurrentId) (λ e. absurd (n41 (eqb-true id setCurrentId e))) (λ e.
@@ -69,4 +70,4 @@ of-one-plan ps current s from now kind id p n41 n45 =
     either P (eqb id statustextId) (λ e. refl) (λ e. refl)))))))))
   where
     P : Message → Type 0
-    P m = knownDone ps current s from now kind (requestOf m) ≡ planDone (planAmong ps kind) current s from now kind (requestOf m)
+    P m = knownDone words ps current s from now kind (requestOf m) ≡ planDone words (planAmong ps kind) current s from now kind (requestOf m)

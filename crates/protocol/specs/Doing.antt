@@ -1,4 +1,4 @@
--- What a message or a timer call does, over the plans of the three kinds, the current item and the store: its effect on the state, the store after it, and the
+-- What a message or a timer call does, over the plans of the three kinds, the current item and the store, in every form of store: its effect on the state, the store after it, and the
 -- answer.
 use Prim.Native.Nat.{ℕ, _≤_}
 use mathlib.Core.Path.{_≡_}
@@ -11,6 +11,7 @@ use Rattle.rules.specs.Payload.{Bytes}
 use Rattle.rules.specs.Messages.{Station, ack}
 use Rattle.rules.specs.Calls.{Request, chooses, asksList, announces, clears, acknowledges, asksItem, brings}
 use Rattle.rules.specs.Step.{Answer, silent, says, covered, kindOk}
+use Rattle.places.specs.Forms.{Store, Form}
 use Rattle.plan.specs.declared.Plan.{Plan}
 use Rattle.plan.specs.View.{emptyPlan}
 use Rattle.upload.specs.declared.Effect.{Effect}
@@ -23,19 +24,19 @@ use Rattle.shown.specs.Shown.{listAnswer, requestAnswer, chooseEffect, chooseAn
 
 pub record Done : Type 0 where
   pub effect : Effect
-  pub store : Bytes
+  pub store : Store
   pub answer : Answer
 
-abbrev pub does : Effect → Bytes → Answer → Done
+abbrev pub does : Effect → Store → Answer → Done
 does e s a = record { effect = e; store = s; answer = a }
 
 -- the call's handler did and said that, and left the store so
-pub record DoneBy (d : Done) (s′ b b′ : Bytes) (r : Handled) : Type 0 where
+pub record DoneBy (d : Done) (s′ : Store) (b b′ : Bytes) (r : Handled) : Type 0 where
   pub handles : Handles (d .effect) (d .answer) b b′ r
   pub store : s′ ≡ d .store
 
 -- a turn of one plan, answered to a station
-abbrev pub turns : Bytes → (kind : ℕ) → Station → Turned → Done
+abbrev pub turns : Store → (kind : ℕ) → Station → Turned → Done
 turns s kind to t = does (t .effect) s (answerOf (t .say) to kind)
 
 abbrev pub itemTurns : (kind : ℕ) → Station → TurnAndStore → Done
@@ -58,7 +59,7 @@ othersAmong ps from (kind ∷ ks) = othersUpload from (planAmong ps kind .upload
 abbrev pub clearEffect : List Plan → (kind : ℕ) → Effect
 clearEffect ps kind = cond (eqb kind everyKind) EmptiesAll (Renews (emptied (planAmong ps kind)))
 
-unfoldable pub clearDone : List Plan → Bytes → Station → (kind : ℕ) → Done
+unfoldable pub clearDone : List Plan → Store → Station → (kind : ℕ) → Done
 clearDone ps s from kind =
     cond (othersAmong ps from (covered kind)) (does Nothing s (says (ack from denied kind 0)))
     (does (clearEffect ps kind) s (says (ack from accepted kind 0)))
@@ -66,28 +67,28 @@ clearDone ps s from kind =
 -- ---- every message of a kind that it may have
 
 -- the messages that speak of the plan of a kind; the others leave it
-unfoldable pub planDone : Plan → (current : ℕ) → Bytes → Station → (now kind : ℕ) → Request → Done
-planDone p current s from now kind (chooses seq) = does Nothing s silent
-planDone p current s from now kind asksList = does Nothing s (listAnswer p from kind)
-planDone p current s from now kind (announces n) = turns s kind from (countTurned p from now n (sizeOf kind))
-planDone p current s from now kind clears = does Nothing s silent
-planDone p current s from now kind (acknowledges result) = turns s kind from (ackTurned p from result)
-planDone p current s from now kind (asksItem seq) = does Nothing s (requestAnswer p current s from kind seq)
-planDone p current s from now kind (brings item) = itemTurns kind from (itemTurned s kind (p .upload) p from now item)
+unfoldable pub planDone : Form → Plan → (current : ℕ) → Store → Station → (now kind : ℕ) → Request → Done
+planDone F p current s from now kind (chooses seq) = does Nothing s silent
+planDone F p current s from now kind asksList = does Nothing s (listAnswer p from kind)
+planDone F p current s from now kind (announces n) = turns s kind from (countTurned p from now n (sizeOf kind))
+planDone F p current s from now kind clears = does Nothing s silent
+planDone F p current s from now kind (acknowledges result) = turns s kind from (ackTurned p from result)
+planDone F p current s from now kind (asksItem seq) = does Nothing s (requestAnswer F p current s from kind seq)
+planDone F p current s from now kind (brings item) = itemTurns kind from (itemTurned F s kind (p .upload) p from now item)
 
 -- SET_CURRENT speaks of the flight plan and of all numbers, CLEAR_ALL of all plans
-unfoldable pub knownDone : List Plan → (current : ℕ) → Bytes → Station → (now kind : ℕ) → Request → Done
-knownDone ps current s from now kind (chooses seq) =
+unfoldable pub knownDone : Form → List Plan → (current : ℕ) → Store → Station → (now kind : ℕ) → Request → Done
+knownDone F ps current s from now kind (chooses seq) =
     does (chooseEffect (planAmong ps flight) seq) s (chooseAnswer (planAmong ps flight) (planAmong ps fence) (planAmong ps rally) seq)
-knownDone ps current s from now kind asksList = planDone (planAmong ps kind) current s from now kind asksList
-knownDone ps current s from now kind (announces n) = planDone (planAmong ps kind) current s from now kind (announces n)
-knownDone ps current s from now kind clears = clearDone ps s from kind
-knownDone ps current s from now kind (acknowledges result) = planDone (planAmong ps kind) current s from now kind (acknowledges result)
-knownDone ps current s from now kind (asksItem seq) = planDone (planAmong ps kind) current s from now kind (asksItem seq)
-knownDone ps current s from now kind (brings item) = planDone (planAmong ps kind) current s from now kind (brings item)
+knownDone F ps current s from now kind asksList = planDone F (planAmong ps kind) current s from now kind asksList
+knownDone F ps current s from now kind (announces n) = planDone F (planAmong ps kind) current s from now kind (announces n)
+knownDone F ps current s from now kind clears = clearDone ps s from kind
+knownDone F ps current s from now kind (acknowledges result) = planDone F (planAmong ps kind) current s from now kind (acknowledges result)
+knownDone F ps current s from now kind (asksItem seq) = planDone F (planAmong ps kind) current s from now kind (asksItem seq)
+knownDone F ps current s from now kind (brings item) = planDone F (planAmong ps kind) current s from now kind (brings item)
 
-unfoldable pub messageDone : List Plan → (current : ℕ) → Bytes → Station → (now kind : ℕ) → Request → Done
-messageDone ps current s from now kind r = cond (kindOk kind r) (knownDone ps current s from now kind r) (does Nothing s (says (ack from unsupported kind 0)))
+unfoldable pub messageDone : Form → List Plan → (current : ℕ) → Store → Station → (now kind : ℕ) → Request → Done
+messageDone F ps current s from now kind r = cond (kindOk kind r) (knownDone F ps current s from now kind r) (does Nothing s (says (ack from unsupported kind 0)))
 
-unfoldable pub timerDone : Plan → Bytes → (now kind : ℕ) → Done
+unfoldable pub timerDone : Plan → Store → (now kind : ℕ) → Done
 timerDone p s now kind = turns s kind (stationOf (p .upload)) (timerTurned (p .upload) p now)

@@ -6,11 +6,11 @@ ghost use Prim.Native.Nat.{_≤_};
 ghost use lib.ListN.{length};
 ghost use lib.Dec.{eqb};
 ghost use Rattle.rules.specs.Limits.{everyKind, replyBytesMin};
-ghost use Rattle.rules.specs.Payload.{Bytes};
 ghost use Rattle.rules.specs.Messages.{station};
 ghost use Rattle.rules.specs.Calls.{isKnown};
 ghost use Rattle.rules.specs.Step.{covered};
 ghost use Rattle.protocol.specs.Doing.{DoneBy, IsPlanOf, othersAmong, clearEffect, clearDone};
+ghost use Rattle.places.specs.Forms.{Store};
 use answers::Handled;
 use answers::ack;
 use answers::only;
@@ -69,7 +69,7 @@ pub fn clear(
     reply: &mut [u8],
 ) -> Handled
     requires { ⌜ ((isKnown kind || eqb kind everyKind) ≡ true) × IsPlanOf kind plan flight fence rally × (replyBytesMin ≤ length (now reply)) ⌝ }
-    ensures { λ r. ⌜ ((store : Bytes) → DoneBy (clearDone (flight ∷ fence ∷ rally ∷ []) store (station system component) kind) store (now (reply .entry)) (now (reply .exit)) r) ⌝ }
+    ensures { λ r. ⌜ ((store : Store) → DoneBy (clearDone (flight ∷ fence ∷ rally ∷ []) store (station system component) kind) store (now (reply .entry)) (now (reply .exit)) r) ⌝ }
 {
     if others_among(plan, flight, fence, rally, system, component, kind) {
         return only(ack(DENIED, kind, 0, system, component, reply));

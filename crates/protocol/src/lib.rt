@@ -19,6 +19,7 @@ ghost use Rattle.ranges.specs.Ranged.{PlanRanges};
 ghost use Rattle.refusal.specs.Refusals.{requestOf};
 ghost use Rattle.answers.specs.Answered.{Handles};
 ghost use Rattle.protocol.specs.Doing.{DoneBy, IsPlanOf, knownDone, planDone, messageDone, timerDone};
+ghost use Rattle.places.specs.Forms.{Store, words};
 use answers::Handled;
 use answers::ack;
 use answers::only;
@@ -56,7 +57,7 @@ fn kind_ok(id: u32, kind: u8) -> bool
 
 // ACK is never answered: no reply buffer is lent to it. One of a kind above the last does nothing.
 fn acknowledge(plan: Plan, kind: u8, result: u8, system: u8, component: u8) -> Handled
-    ensures { λ r. ⌜ ((p q s : Plan) (current : ℕ) (store : Bytes) (clock : ℕ) (b : Bytes) → IsPlanOf kind plan p q s → DoneBy (knownDone (p ∷ q ∷ s ∷ []) current store (station system component) clock kind (acknowledges result)) store b b r) ⌝ }
+    ensures { λ r. ⌜ ((p q s : Plan) (current : ℕ) (store : Store) (clock : ℕ) (b : Bytes) → IsPlanOf kind plan p q s → DoneBy (knownDone words (p ∷ q ∷ s ∷ []) current store (station system component) clock kind (acknowledges result)) store b b r) ⌝ }
 {
     if RALLY < kind {
         return only(silent());
@@ -71,7 +72,7 @@ fn acknowledge(plan: Plan, kind: u8, result: u8, system: u8, component: u8) -> H
 fn turn(
     plan: Plan,
     current: u16,
-    store: &mut [u8],
+    store: &mut [u32],
     reply: &mut [u8],
     kind: u8,
     system: u8,
@@ -82,7 +83,7 @@ fn turn(
 ) -> Handled
     requires { ⌜ (kind ≤ rally) × PlanRanges kind plan × (storeWords ≤ length (now store)) × (replyBytesMin ≤ length (now reply)) ⌝ }
     requires { ⌜ (isRead (decode id (now own)) ≡ true) × (id ≡ setCurrentId → ⊥) × (id ≡ clearAllId → ⊥) × (id ≡ ackId → ⊥) ⌝ }
-    ensures { λ r. ⌜ DoneBy (planDone plan current (now (store .entry)) (station system component) clock kind (requestOf (decode id (now (own .entry))))) (now (store .exit)) (now (reply .entry)) (now (reply .exit)) r ⌝ }
+    ensures { λ r. ⌜ DoneBy (planDone words plan current (now (store .entry)) (station system component) clock kind (requestOf (decode id (now (own .entry))))) (now (store .exit)) (now (reply .entry)) (now (reply .exit)) r ⌝ }
 {
     match id {
         REQUEST_LIST_ID => only(shown::list(plan, kind, system, component, reply)),
@@ -112,7 +113,7 @@ pub fn answer(
     fence: Plan,
     rally: Plan,
     current: u16,
-    store: &mut [u8],
+    store: &mut [u32],
     reply: &mut [u8],
     kind: u8,
     system: u8,
@@ -122,7 +123,7 @@ pub fn answer(
     clock: u32,
 ) -> Handled
     requires { ⌜ IsPlanOf kind plan flight fence rally × (plansRanged flight fence rally ≡ true) × (storeWords ≤ length (now store)) × (replyBytesMin ≤ length (now reply)) × (isRead (decode id (now own)) ≡ true) ⌝ }
-    ensures { λ r. ⌜ DoneBy (messageDone (flight ∷ fence ∷ rally ∷ []) current (now (store .entry)) (station system component) clock kind (requestOf (decode id (now (own .entry))))) (now (store .exit)) (now (reply .entry)) (now (reply .exit)) r ⌝ }
+    ensures { λ r. ⌜ DoneBy (messageDone words (flight ∷ fence ∷ rally ∷ []) current (now (store .entry)) (station system component) clock kind (requestOf (decode id (now (own .entry))))) (now (store .exit)) (now (reply .entry)) (now (reply .exit)) r ⌝ }
 {
     if !kind_ok(id, kind) {
         return only(ack(UNSUPPORTED, kind, 0, system, component, reply));
@@ -155,7 +156,7 @@ pub fn answer(
 // A timer call of a kind's plan: its reply goes to the upload's station.
 pub fn expire(plan: Plan, kind: u8, clock: u32, reply: &mut [u8]) -> Handled
     requires { ⌜ replyBytesMin ≤ length (now reply) ⌝ }
-    ensures { λ r. ⌜ ((store : Bytes) → Handles (timerDone plan store clock kind .effect) (timerDone plan store clock kind .answer) (now (reply .entry)) (now (reply .exit)) r) ⌝ }
+    ensures { λ r. ⌜ ((store : Store) → Handles (timerDone plan store clock kind .effect) (timerDone plan store clock kind .answer) (now (reply .entry)) (now (reply .exit)) r) ⌝ }
 {
     let held = plan.upload;
     let to = station_of(held);

@@ -7,6 +7,7 @@ ghost use Rattle.rules.specs.Messages.{station};
 ghost use Rattle.rules.specs.Step.{currentField};
 ghost use Rattle.answers.specs.Answered.{Spoken, Handles};
 ghost use Rattle.shown.specs.Shown.{listAnswer, requestAnswer, chooseEffect, chooseAnswer};
+ghost use Rattle.places.specs.Forms.{words};
 use answers::Handled;
 use answers::REPLIED;
 use answers::Said;
@@ -52,7 +53,7 @@ fn current_field(kind: u8, seq: u16, current: u16) -> u8
 pub fn request(
     plan: Plan,
     current: u16,
-    store: &[u8],
+    store: &[u32],
     kind: u8,
     seq: u16,
     system: u8,
@@ -60,7 +61,7 @@ pub fn request(
     reply: &mut [u8],
 ) -> Said
     requires { ⌜ (kind ≤ rally) × (plan .len ≤ sizeOf kind) × (storeWords ≤ length (now store)) × (replyBytesMin ≤ length (now reply)) ⌝ }
-    ensures { λ r. ⌜ Spoken (requestAnswer plan current (now (store .entry)) (station system component) kind seq) (now (reply .entry)) (now (reply .exit)) r ⌝ }
+    ensures { λ r. ⌜ Spoken (requestAnswer words plan current (now (store .entry)) (station system component) kind seq) (now (reply .entry)) (now (reply .exit)) r ⌝ }
 {
     if seq < plan.len {
         let item = storage::fetch(store, kind, plan.half, seq);

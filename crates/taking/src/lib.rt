@@ -8,7 +8,7 @@ ghost use Rattle.rules.specs.Messages.{station};
 ghost use Rattle.rules.specs.Items.{fault, isJump, jumpsAmong};
 ghost use Rattle.rules.specs.Model.{wholeOk};
 ghost use Rattle.item.specs.Patterns.{itemFor, patterns};
-ghost use Rattle.places.specs.Places.{itemsIn};
+ghost use Rattle.places.specs.Forms.{words, itemsIn};
 ghost use Rattle.ranges.specs.Ranges.{uploadRanged};
 ghost use Rattle.upload.specs.Turns.{turnWith, validItemTurned, itemTurned};
 ghost use Rattle.taking.specs.Judging.{InRange, judgedAs};
@@ -43,9 +43,9 @@ enum Judged {
 }
 
 // The jumps among the first n items of a kind in a half, counted where the item is a jump; no other asks for room.
-fn jumps_before(store: &[u8], kind: u8, half: bool, n: u16, item: Item) -> u16
+fn jumps_before(store: &[u32], kind: u8, half: bool, n: u16, item: Item) -> u16
     requires { ⌜ (storeWords ≤ length (now store)) × (kind ≤ rally) × (n ≤ sizeOf kind) ⌝ }
-    ensures { λ r. ⌜ r ≡ cond (isJump (patterns item)) (jumpsAmong (itemsIn (now (store .entry)) half kind n)) 0 ⌝ }
+    ensures { λ r. ⌜ r ≡ cond (isJump (patterns item)) (jumpsAmong (itemsIn words (now (store .entry)) half kind n)) 0 ⌝ }
 {
     if item::is_jump(item) {
         return jumps(store, kind, half, n);
@@ -54,9 +54,9 @@ fn jumps_before(store: &[u8], kind: u8, half: bool, n: u16, item: Item) -> u16
 }
 
 // The result for an item as the next of an upload whose items taken stand in a half.
-fn result_of(store: &[u8], kind: u8, half: bool, run: Run, item: Item) -> u8
+fn result_of(store: &[u32], kind: u8, half: bool, run: Run, item: Item) -> u8
     requires { ⌜ (storeWords ≤ length (now store)) × (kind ≤ rally) × InRange (sizeOf kind) run × (item ≡ itemFor (patterns item)) ⌝ }
-    ensures { λ r. ⌜ r ≡ fault kind (run .count) (run .next) (jumpsAmong (itemsIn (now (store .entry)) half kind (run .next))) (patterns item) ⌝ }
+    ensures { λ r. ⌜ r ≡ fault kind (run .count) (run .next) (jumpsAmong (itemsIn words (now (store .entry)) half kind (run .next))) (patterns item) ⌝ }
 {
     let before = jumps_before(store, kind, half, run.next, item);
     item_rules::verdict(item, kind, run.count, run.next, before)
@@ -64,7 +64,7 @@ fn result_of(store: &[u8], kind: u8, half: bool, run: Run, item: Item) -> u8
 
 // The judgement in a running upload.
 fn judge_running(
-    store: &[u8],
+    store: &[u32],
     kind: u8,
     plan: Plan,
     run: Run,
@@ -88,7 +88,7 @@ fn judge_running(
     Judged::Valid(run)
 }
 
-fn judge(store: &[u8], kind: u8, plan: Plan, system: u8, component: u8, item: Item) -> Judged
+fn judge(store: &[u32], kind: u8, plan: Plan, system: u8, component: u8, item: Item) -> Judged
     requires { ⌜ (storeWords ≤ length (now store)) × (kind ≤ rally) × (uploadRanged (sizeOf kind) (plan .upload) ≡ true) × (item ≡ itemFor (patterns item)) ⌝ }
     ensures { λ r. ⌜ r ≡ judgedAs (now (store .entry)) kind (plan .upload) plan (station system component) (patterns item) ⌝ }
 {
@@ -100,9 +100,9 @@ fn judge(store: &[u8], kind: u8, plan: Plan, system: u8, component: u8, item: It
 }
 
 // Whether the first n items of a kind in a half may become its plan: a fence keeps its rule.
-fn whole_ok(store: &[u8], kind: u8, half: bool, n: u16) -> bool
+fn whole_ok(store: &[u32], kind: u8, half: bool, n: u16) -> bool
     requires { ⌜ (storeWords ≤ length (now store)) × (n ≤ sizeOf kind) ⌝ }
-    ensures { λ r. ⌜ r ≡ wholeOk kind (itemsIn (now (store .entry)) half kind n) ⌝ }
+    ensures { λ r. ⌜ r ≡ wholeOk kind (itemsIn words (now (store .entry)) half kind n) ⌝ }
 {
     if kind == FENCE {
         return fence_ok(store, half, n);
@@ -111,9 +111,9 @@ fn whole_ok(store: &[u8], kind: u8, half: bool, n: u16) -> bool
 }
 
 // A valid item is in the store: the next is asked for, or after the last the plan is replaced.
-fn valid_turn(store: &[u8], kind: u8, plan: Plan, run: Run, clock: u32) -> Turned
+fn valid_turn(store: &[u32], kind: u8, plan: Plan, run: Run, clock: u32) -> Turned
     requires { ⌜ (storeWords ≤ length (now store)) × InRange (sizeOf kind) run ⌝ }
-    ensures { λ r. ⌜ r ≡ validItemTurned (now (store .entry)) kind plan run clock .turned ⌝ }
+    ensures { λ r. ⌜ r ≡ validItemTurned words (now (store .entry)) kind plan run clock .turned ⌝ }
 {
     let next = run.next + 1;
     if next != run.count {
@@ -137,7 +137,7 @@ fn valid_turn(store: &[u8], kind: u8, plan: Plan, run: Run, clock: u32) -> Turne
 // ITEM_INT from a station. Only a valid item changes the store, at the upload's next place in the other half.
 pub fn take_item(
     plan: Plan,
-    store: &mut [u8],
+    store: &mut [u32],
     kind: u8,
     system: u8,
     component: u8,
@@ -145,7 +145,7 @@ pub fn take_item(
     item: Item,
 ) -> Turned
     requires { ⌜ (storeWords ≤ length (now store)) × (kind ≤ rally) × (uploadRanged (sizeOf kind) (plan .upload) ≡ true) × (item ≡ itemFor (patterns item)) ⌝ }
-    ensures { λ r. ⌜ turnWith r (now (store .exit)) ≡ itemTurned (now (store .entry)) kind (plan .upload) plan (station system component) clock (patterns item) ⌝ }
+    ensures { λ r. ⌜ turnWith r (now (store .exit)) ≡ itemTurned words (now (store .entry)) kind (plan .upload) plan (station system component) clock (patterns item) ⌝ }
 {
     let judged = judge(store, kind, plan, system, component, item);
     match judged {

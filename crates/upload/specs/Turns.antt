@@ -1,17 +1,16 @@
--- What each message and timer call makes of one kind's plan, over the state's own records.
+-- What each message and timer call makes of one kind's plan, over the state's own records; of the store in every form.
 use Prim.Native.Nat.{ℕ, _+_}
 use mathlib.Core.Bool.{Bool, false, not, cond, _&&_}
 use lib.Dec.{eqb, ltb}
 use Rattle.rules.specs.Limits.{maxRepeats, expiryMs, accepted, noSpace, invalid, invalidSequence, denied, cancelled}
-use Rattle.rules.specs.Payload.{Bytes}
-use Rattle.rules.specs.Messages.{Station, station, sameStation, Item, itemOf}
+use Rattle.rules.specs.Messages.{Station, station, sameStation, Item}
 use Rattle.rules.specs.Items.{jumpsAmong, fault}
 use Rattle.rules.specs.Model.{nextNumber, elapsed, wholeOk}
 use Rattle.plan.specs.declared.Plan.{Plan}
 use Rattle.plan.specs.declared.Run.{Run}
 use Rattle.plan.specs.declared.Upload.{Upload}
 use Rattle.plan.specs.declared.Upload.the-variants.{Idle, Running}
-use Rattle.places.specs.Places.{itemsIn}
+use Rattle.places.specs.Forms.{Store, Form, itemsIn}
 use Rattle.places.specs.Writes.{putAt}
 use Rattle.plan.specs.View.{stationIn}
 use Rattle.upload.specs.declared.Say.{Say}
@@ -90,28 +89,29 @@ timerTurned (Running r) p now =
 
 pub record TurnAndStore : Type 0 where
   pub turned : Turned
-  pub store : Bytes
+  pub store : Store
 
-abbrev pub turnWith : Turned → Bytes → TurnAndStore
+abbrev pub turnWith : Turned → Store → TurnAndStore
 turnWith t s = record { turned = t; store = s }
 
--- the store with the item at the upload's next place
-abbrev pub stored : Bytes → (kind : ℕ) → Plan → Run → Item → Bytes
-stored s kind p r item = putAt s (not (p .half)) kind (r .next) (itemOf item)
+module _ (F : Form) where
+  -- the store with the item at the upload's next place
+  abbrev pub stored : Store → (kind : ℕ) → Plan → Run → Item → Store
+  stored s kind p r item = putAt F s (not (p .half)) kind (r .next) (F .keeps item)
 
-unfoldable pub validItemTurned : Bytes → (kind : ℕ) → Plan → Run → (now : ℕ) → TurnAndStore
-validItemTurned s kind p r now =
-    cond (not (eqb (r .next + 1) (r .count))) (turnWith (moves (withUpload p (Running (oneMore r now))) (Ask (r .next + 1))) s)
-    (cond (wholeOk kind (itemsIn s (not (p .half)) kind (r .count))) (turnWith (renews (replaced p (r .count)) (Ack accepted (nextNumber (p .number)))) s)
-    (turnWith (moves (ended p) (Ack invalid 0)) s))
+  unfoldable pub validItemTurned : Store → (kind : ℕ) → Plan → Run → (now : ℕ) → TurnAndStore
+  validItemTurned s kind p r now =
+      cond (not (eqb (r .next + 1) (r .count))) (turnWith (moves (withUpload p (Running (oneMore r now))) (Ask (r .next + 1))) s)
+      (cond (wholeOk kind (itemsIn F s (not (p .half)) kind (r .count))) (turnWith (renews (replaced p (r .count)) (Ack accepted (nextNumber (p .number)))) s)
+      (turnWith (moves (ended p) (Ack invalid 0)) s))
 
-abbrev pub itemVerdict : Bytes → (kind : ℕ) → Plan → Run → Item → ℕ
-itemVerdict s kind p r item = fault kind (r .count) (r .next) (jumpsAmong (itemsIn s (not (p .half)) kind (r .next))) item
+  abbrev pub itemVerdict : Store → (kind : ℕ) → Plan → Run → Item → ℕ
+  itemVerdict s kind p r item = fault kind (r .count) (r .next) (jumpsAmong (itemsIn F s (not (p .half)) kind (r .next))) item
 
-unfoldable pub itemTurned : Bytes → (kind : ℕ) → Upload → Plan → Station → (now : ℕ) → Item → TurnAndStore
-itemTurned s kind Idle p from now item = turnWith (keeps (Ack invalidSequence 0)) s
-itemTurned s kind (Running r) p from now item =
-    cond (not (sameStation from (stationIn r))) (turnWith (keeps (Ack denied 0)) s)
-    (cond (not (eqb (item .seq) (r .next))) (turnWith (keeps (Ask (r .next))) s)
-    (cond (not (eqb (itemVerdict s kind p r item) accepted)) (turnWith (moves (ended p) (Ack (itemVerdict s kind p r item) 0)) s)
-    (validItemTurned (stored s kind p r item) kind p r now)))
+  unfoldable pub itemTurned : Store → (kind : ℕ) → Upload → Plan → Station → (now : ℕ) → Item → TurnAndStore
+  itemTurned s kind Idle p from now item = turnWith (keeps (Ack invalidSequence 0)) s
+  itemTurned s kind (Running r) p from now item =
+      cond (not (sameStation from (stationIn r))) (turnWith (keeps (Ack denied 0)) s)
+      (cond (not (eqb (item .seq) (r .next))) (turnWith (keeps (Ask (r .next))) s)
+      (cond (not (eqb (itemVerdict s kind p r item) accepted)) (turnWith (moves (ended p) (Ack (itemVerdict s kind p r item) 0)) s)
+      (validItemTurned (stored s kind p r item) kind p r now)))

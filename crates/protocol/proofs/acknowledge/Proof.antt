@@ -9,6 +9,7 @@ use Rattle.rules.specs.Limits.{rally, noReply, accepted}
 use Rattle.rules.specs.Payload.{Bytes}
 use Rattle.rules.specs.Messages.{Station}
 use Rattle.rules.specs.Calls.{acknowledges}
+use Rattle.places.specs.Forms.{Store, words}
 use Rattle.plan.specs.declared.Plan.{Plan}
 use Rattle.plan.specs.View.{emptyPlan}
 use Rattle.upload.specs.declared.Effect.the-variants.{Nothing}
@@ -38,20 +39,20 @@ above p q s (suc zero) more = absurd (omega arith)
 above p q s (suc (suc zero)) more = absurd (omega arith)
 above p q s (suc (suc (suc kind))) more = refl
 
-module _ (kind result : ℕ) (from : Station) (p q s : Plan) (current : ℕ) (store : Bytes) (clock : ℕ) (b : Bytes) where
+module _ (kind result : ℕ) (from : Station) (p q s : Plan) (current : ℕ) (store : Store) (clock : ℕ) (b : Bytes) where
   turned-so : (turned : Turned) (quiet : Said) → turned ≡ ackTurned (planAmong (p ∷ q ∷ s ∷ []) kind) from result → quiet ≡ said noReply 0 0
-      → DoneBy (knownDone (p ∷ q ∷ s ∷ []) current store from clock kind (acknowledges result)) store b b (record { effect = turned .effect; said = quiet })
+      → DoneBy (knownDone words (p ∷ q ∷ s ∷ []) current store from clock kind (acknowledges result)) store b b (record { effect = turned .effect; said = quiet })
   unfolding knownDone planDone
   turned-so turned quiet turn none =
       rw (sym turn, (ap (λ (t : Turned). t .say) turn ∙ says-nothing (planAmong (p ∷ q ∷ s ∷ []) kind) from result), none)
       (record { handles = record { effect = refl; spoken = spoken-silent b }; store = refl })
 
   acknowledged : (x : Plan) (turned : Turned) (quiet : Said) → kind ≤ rally → turned ≡ ackTurned x from result → quiet ≡ said noReply 0 0 → IsPlanOf kind x p q s
-      → DoneBy (knownDone (p ∷ q ∷ s ∷ []) current store from clock kind (acknowledges result)) store b b (record { effect = turned .effect; said = quiet })
+      → DoneBy (knownDone words (p ∷ q ∷ s ∷ []) current store from clock kind (acknowledges result)) store b b (record { effect = turned .effect; said = quiet })
   acknowledged x turned quiet known turn none of = turned-so turned quiet (rw (of known) at turn) none
 
   ignored : (quiet : Said) (h : Handled) → rally < kind → quiet ≡ said noReply 0 0 → h ≡ record { effect = Nothing; said = quiet }
-      → DoneBy (knownDone (p ∷ q ∷ s ∷ []) current store from clock kind (acknowledges result)) store b b h
+      → DoneBy (knownDone words (p ∷ q ∷ s ∷ []) current store from clock kind (acknowledges result)) store b b h
   unfolding ackTurned ownUpload
   ignored quiet h more none is = rw is (turned-so (keeps Silent) quiet (rw (above p q s kind more)) none)
 

@@ -14,6 +14,7 @@ use Rattle.rules.specs.Step.{says, kindOk}
 use Rattle.wire.specs.declared.structs.SetCurrent.{SetCurrent}
 use Rattle.wire.specs.declared.structs.Ack.{Ack}
 use Rattle.wire.specs.Structs.{setCurrentMessage, ackMessage}
+use Rattle.places.specs.Forms.{Store, words}
 use Rattle.plan.specs.declared.Plan.{Plan}
 use Rattle.ranges.specs.Ranges.{plansRanged}
 use Rattle.ranges.specs.Ranged.{PlanRanges, plan-ranges}
@@ -42,13 +43,13 @@ module _ (kind id : ℕ) (ok : Bool) (oks : (payload : Bytes) → ok ≡ kindOk 
     plan-ranged : (x p q r : Plan) → IsPlanOf kind x p q r → plansRanged p q r ≡ true → PlanRanges kind x
     plan-ranged x p q r of ranged = subst (PlanRanges kind) (sym (of known-kind)) (plan-ranges p q r ranged kind known-kind)
 
-module _ (p q r : Plan) (current : ℕ) (s : Bytes) (from : Station) (clock kind id : ℕ) (own : Bytes) (ok : Bool)
+module _ (p q r : Plan) (current : ℕ) (s : Store) (from : Station) (clock kind id : ℕ) (own : Bytes) (ok : Bool)
     (oks : (payload : Bytes) → ok ≡ kindOk kind (requestOf (decode id payload))) where
   abbrev plans : List Plan
   plans = p ∷ q ∷ r ∷ []
 
-  abbrev Goal : (s′ b b′ : Bytes) → Handled → Type 0
-  Goal = DoneBy (messageDone plans current s from clock kind (requestOf (decode id own)))
+  abbrev Goal : (s′ : Store) (b b′ : Bytes) → Handled → Type 0
+  Goal = DoneBy (messageDone words plans current s from clock kind (requestOf (decode id own)))
 
   -- a kind that the message may not have
   unsupported-kind : (b b′ : Bytes) (said : Said) (h : Handled) → not ok ≡ true → Spoken (says (ack from unsupported kind 0)) b b′ said
@@ -60,14 +61,14 @@ module _ (p q r : Plan) (current : ℕ) (s : Bytes) (from : Station) (clock kind
 
   module _ (may : not ok ≡ false) where
     -- a kind that it may have: what its request does
-    allowed : (s′ b b′ : Bytes) (h : Handled) → DoneBy (knownDone plans current s from clock kind (requestOf (decode id own))) s′ b b′ h → Goal s′ b b′ h
+    allowed : (s′ : Store) (b b′ : Bytes) (h : Handled) → DoneBy (knownDone words plans current s from clock kind (requestOf (decode id own))) s′ b b′ h → Goal s′ b b′ h
     unfolding messageDone
     allowed s′ b b′ h done =
         let t : kindOk kind (requestOf (decode id own)) ≡ true = sym (oks own) ∙ not-false ok may in
         rw t done
 
-    by-request : (req : Request) (s′ b b′ : Bytes) (h : Handled) → requestOf (decode id own) ≡ req
-        → DoneBy (knownDone plans current s from clock kind req) s′ b b′ h → Goal s′ b b′ h
+    by-request : (req : Request) (s′ : Store) (b b′ : Bytes) (h : Handled) → requestOf (decode id own) ≡ req
+        → DoneBy (knownDone words plans current s from clock kind req) s′ b b′ h → Goal s′ b b′ h
     by-request req s′ b b′ h is done = allowed s′ b b′ h (rw is done)
 
     module _ (b b′ : Bytes) (h : Handled) where
@@ -77,17 +78,17 @@ module _ (p q r : Plan) (current : ℕ) (s : Bytes) (from : Station) (clock kind
       sets-current m e reads handles =
           by-request (chooses (m .seq)) s b b′ h (rw e (ap requestOf (sym reads))) (record { handles = handles; store = refl })
 
-      clears-all : id ≡ clearAllId → ((store : Bytes) → DoneBy (clearDone plans store from kind) store b b′ h) → Goal s b b′ h
+      clears-all : id ≡ clearAllId → ((store : Store) → DoneBy (clearDone plans store from kind) store b b′ h) → Goal s b b′ h
       unfolding knownDone decode messageOf
       clears-all e done = by-request clears s b b′ h (rw e) (done s)
 
-      turns-plan : (x : Plan) (s′ : Bytes) → (id ≡ setCurrentId → ⊥) → (id ≡ clearAllId → ⊥) → x ≡ planAmong plans kind
-          → DoneBy (planDone x current s from clock kind (requestOf (decode id own))) s′ b b′ h → Goal s′ b b′ h
+      turns-plan : (x : Plan) (s′ : Store) → (id ≡ setCurrentId → ⊥) → (id ≡ clearAllId → ⊥) → x ≡ planAmong plans kind
+          → DoneBy (planDone words x current s from clock kind (requestOf (decode id own))) s′ b b′ h → Goal s′ b b′ h
       turns-plan x s′ n41 n45 is done = allowed s′ b b′ h (rw (of-one-plan plans current s from clock kind id own n41 n45, sym is) done)
 
     acknowledged : (x : Plan) (b : Bytes) (h : Handled) (m : Ack) → id ≡ ackId → ackMessage m ≡ decode ackId own → IsPlanOf kind x p q r
-        → ((p′ q′ r′ : Plan) (current′ : ℕ) (store : Bytes) (clock′ : ℕ) (b₀ : Bytes) → IsPlanOf kind x p′ q′ r′
-        → DoneBy (knownDone (p′ ∷ q′ ∷ r′ ∷ []) current′ store from clock′ kind (acknowledges (m .result))) store b₀ b₀ h)
+        → ((p′ q′ r′ : Plan) (current′ : ℕ) (store : Store) (clock′ : ℕ) (b₀ : Bytes) → IsPlanOf kind x p′ q′ r′
+        → DoneBy (knownDone words (p′ ∷ q′ ∷ r′ ∷ []) current′ store from clock′ kind (acknowledges (m .result))) store b₀ b₀ h)
         → Goal s b b h
     acknowledged x b h m e reads of done = by-request (acknowledges (m .result)) s b b h (rw e (ap requestOf (sym reads))) (done p q r current s clock b of)
 

@@ -3,6 +3,7 @@ use Prim.Native.Nat.{ℕ}
 use mathlib.Core.Path.{_≡_, sym}
 use Rattle.rules.specs.Payload.{Bytes}
 use Rattle.rules.specs.Messages.{station}
+use Rattle.places.specs.Forms.{Store}
 use Rattle.plan.specs.declared.Plan.{Plan}
 use Rattle.upload.specs.declared.Turned.{Turned}
 use Rattle.upload.specs.declared.uploads.Station.{Station}
@@ -18,7 +19,7 @@ expired : (p : Plan) (kind clock : ℕ) (to : Station) (turned : Turned) (b b′
     → station (to .system) (to .component) ≡ stationOf (p .upload)
     → turned ≡ timerTurned (p .upload) p clock
     → Handles (turned .effect) (answerOf (turned .say) (station (to .system) (to .component)) kind) b b′ r
-    → (store : Bytes) → Handles (timerDone p store clock kind .effect) (timerDone p store clock kind .answer) b b′ r
+    → (store : Store) → Handles (timerDone p store clock kind .effect) (timerDone p store clock kind .answer) b b′ r
 unfolding timerDone
 expired p kind clock to turned b b′ r goes turn handles store = rw (sym goes, sym turn) handles
 

@@ -13,6 +13,7 @@ use Rattle.wire.specs.declared.structs.RequestInt.{RequestInt}
 use Rattle.wire.specs.declared.structs.ItemInt.{ItemInt}
 use Rattle.message_table.specs.Table.{isRead}
 use Rattle.wire.specs.Structs.{countMessage, requestIntMessage, itemIntMessage}
+use Rattle.places.specs.Forms.{Store, words}
 use Rattle.plan.specs.declared.Plan.{Plan}
 use Rattle.refusal.specs.Refusals.{requestOf}
 use Rattle.upload.specs.declared.Effect.the-variants.{Nothing}
@@ -28,12 +29,12 @@ use borrow.Author.Needs.{needs}
 use Rattle.protocol.proofs.turn.Statement.{statement}
 use Rattle.protocol.proofs.turn.Tie as tie
 
-module _ (p : Plan) (current : ℕ) (s : Bytes) (from : Station) (clock kind id : ℕ) (own : Bytes) where
-  abbrev Goal : (s′ b b′ : Bytes) → Handled → Type 0
-  Goal = DoneBy (planDone p current s from clock kind (requestOf (decode id own)))
+module _ (p : Plan) (current : ℕ) (s : Store) (from : Station) (clock kind id : ℕ) (own : Bytes) where
+  abbrev Goal : (s′ : Store) (b b′ : Bytes) → Handled → Type 0
+  Goal = DoneBy (planDone words p current s from clock kind (requestOf (decode id own)))
 
   -- what the request does that the message reads as
-  by-request : (req : Request) (s′ b b′ : Bytes) (r : Handled) → requestOf (decode id own) ≡ req → DoneBy (planDone p current s from clock kind req) s′ b b′ r → Goal s′ b b′ r
+  by-request : (req : Request) (s′ : Store) (b b′ : Bytes) (r : Handled) → requestOf (decode id own) ≡ req → DoneBy (planDone words p current s from clock kind req) s′ b b′ r → Goal s′ b b′ r
   by-request req s′ b b′ r is done = rw is done
 
   module _ (b b′ : Bytes) (r : Handled) where
@@ -50,7 +51,7 @@ module _ (p : Plan) (current : ℕ) (s : Bytes) (from : Station) (clock kind id 
         (record { handles = rw (sym sized, sym turn) handles; store = refl })
 
     asks-item : (m : RequestInt) (said : Said) → id ≡ requestIntId → requestIntMessage m ≡ decode requestIntId own
-        → Spoken (requestAnswer p current s from kind (m .seq)) b b′ said → r ≡ record { effect = Nothing; said = said } → Goal s b b′ r
+        → Spoken (requestAnswer words p current s from kind (m .seq)) b b′ said → r ≡ record { effect = Nothing; said = said } → Goal s b b′ r
     unfolding planDone
     asks-item m said e reads spoken only =
         by-request (asksItem (m .seq)) s b b′ r (rw e (ap requestOf (sym reads)))
@@ -58,8 +59,8 @@ module _ (p : Plan) (current : ℕ) (s : Bytes) (from : Station) (clock kind id 
 
     module _ (read : isRead (decode id own) ≡ true) (n41 : id ≡ setCurrentId → ⊥) (n45 : id ≡ clearAllId → ⊥) (n47 : id ≡ ackId → ⊥)
         (n43 : id ≡ requestListId → ⊥) (n44 : id ≡ countId → ⊥) (n51 : id ≡ requestIntId → ⊥) where
-      brings-item : (m : ItemInt) (s′ : Bytes) (turned : Turned) → itemIntMessage m ≡ decode itemIntId own
-          → turnWith turned s′ ≡ itemTurned s kind (p .upload) p from clock (patterns (m .item))
+      brings-item : (m : ItemInt) (s′ : Store) (turned : Turned) → itemIntMessage m ≡ decode itemIntId own
+          → turnWith turned s′ ≡ itemTurned words s kind (p .upload) p from clock (patterns (m .item))
           → Handles (turned .effect) (answerOf (turned .say) from kind) b b′ r → Goal s′ b b′ r
       unfolding planDone
       brings-item m s′ turned reads turn handles =

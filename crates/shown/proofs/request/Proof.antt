@@ -11,7 +11,7 @@ use Rattle.rules.specs.Step.{says, currentField}
 use Rattle.item.specs.declared.Item.{Item}
 use Rattle.item.specs.Patterns.{patterns, itemFor, patterns-of}
 use Rattle.plan.specs.declared.Plan.{Plan}
-use Rattle.places.specs.Places.{itemAt}
+use Rattle.places.specs.Forms.{Store, words, itemAt}
 use Rattle.reply.specs.Written.{Wrote}
 use Rattle.answers.specs.declared.Said.{Said}
 use Rattle.answers.specs.Answered.{Spoken, said, written-spoken}
@@ -20,18 +20,18 @@ use borrow.Author.Needs.{needs}
 use Rattle.shown.proofs.request.Statement.{statement}
 use Rattle.shown.proofs.request.Tie as tie
 
-module _ (p : Plan) (current : ℕ) (store : Bytes) (system component kind seq : ℕ) (b b′ : Bytes) where
+module _ (p : Plan) (current : ℕ) (store : Store) (system component kind seq : ℕ) (b b′ : Bytes) where
   shown : (field : ℕ) (item : Item) (n : ℕ) → replyBytesMin ≤ length b → seq < p .len
-      → item ≡ itemFor (itemIn (itemAt store (p .half) kind seq))
+      → item ≡ itemFor (itemIn (itemAt words store (p .half) kind seq))
       → field ≡ currentField kind seq current
       → Wrote (itemInt (station system component) field (patterns item)) b b′ n
-      → Spoken (requestAnswer p current store (station system component) kind seq) b b′ (said replied itemIntId n)
+      → Spoken (requestAnswer words p current store (station system component) kind seq) b b′ (said replied itemIntId n)
   unfolding requestAnswer
   shown field item n enough below fetched is w =
       rw (lt-ltb _ _ below, sym (patterns-of fetched), sym is) (written-spoken (itemInt (station system component) field (patterns item)) b b′ n enough w)
 
   past : (s : Said) → p .len ≤ seq → Spoken (says (ack (station system component) invalidSequence kind 0)) b b′ s
-      → Spoken (requestAnswer p current store (station system component) kind seq) b b′ s
+      → Spoken (requestAnswer words p current store (station system component) kind seq) b b′ s
   unfolding requestAnswer
   past s above spoken = rw (le-ltb _ _ above) spoken
 

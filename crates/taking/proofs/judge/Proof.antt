@@ -2,7 +2,7 @@
 use mathlib.Core.Path.{_≡_}
 use Prim.Native.Nat.{ℕ}
 use Rattle.rules.specs.Limits.{invalidSequence}
-use Rattle.rules.specs.Payload.{Bytes}
+use Rattle.places.specs.Forms.{Store}
 use Rattle.rules.specs.Messages.{Station, Item}
 use Rattle.plan.specs.declared.Plan.{Plan}
 use Rattle.plan.specs.declared.Run.{Run}
@@ -15,7 +15,7 @@ use borrow.Author.Needs.{needs}
 use Rattle.taking.proofs.judge.Statement.{statement}
 use Rattle.taking.proofs.judge.Tie as tie
 
-module _ (s : Bytes) (kind : ℕ) (u : Upload) (p : Plan) (from : Station) (item : Item) where
+module _ (s : Store) (kind : ℕ) (u : Upload) (p : Plan) (from : Station) (item : Item) where
   idle : u ≡ Idle → Refused invalidSequence ≡ judgedAs s kind u p from item
   unfolding judgedAs
   idle e = rw e

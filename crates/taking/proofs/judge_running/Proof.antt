@@ -4,7 +4,7 @@ use mathlib.Core.Bool.{Bool, true, false, not}
 use Prim.Native.Nat.{ℕ}
 use borrow.Author.Tests.{eq-eqb, ne-eqb}
 use Rattle.rules.specs.Limits.{accepted, denied}
-use Rattle.rules.specs.Payload.{Bytes}
+use Rattle.places.specs.Forms.{Store, words}
 use Rattle.rules.specs.Messages.{Station, Item, sameStation}
 use Rattle.plan.specs.declared.Plan.{Plan}
 use Rattle.plan.specs.declared.Run.{Run}
@@ -17,7 +17,7 @@ use borrow.Author.Needs.{needs}
 use Rattle.taking.proofs.judge_running.Statement.{statement}
 use Rattle.taking.proofs.judge_running.Tie as tie
 
-module _ (s : Bytes) (kind : ℕ) (p : Plan) (r : Run) (from : Station) (item : Item) (b : Bool) (is : b ≡ sameStation from (stationIn r)) where
+module _ (s : Store) (kind : ℕ) (p : Plan) (r : Run) (from : Station) (item : Item) (b : Bool) (is : b ≡ sameStation from (stationIn r)) where
   denies : not b ≡ true → Refused denied ≡ judgedAs s kind (Running r) p from item
   unfolding judgedAs
   denies e = simp (← is, e)
@@ -26,12 +26,12 @@ module _ (s : Bytes) (kind : ℕ) (p : Plan) (r : Run) (from : Station) (item : 
   unfolding judgedAs
   out-of-turn e other = simp (← is, e, ne-eqb (item .seq) (r .next) other)
 
-  fails : (result : ℕ) → not b ≡ false → item .seq ≡ r .next → result ≡ itemVerdict s kind p r item → (result ≡ accepted → ⊥)
+  fails : (result : ℕ) → not b ≡ false → item .seq ≡ r .next → result ≡ itemVerdict words s kind p r item → (result ≡ accepted → ⊥)
       → Invalid result ≡ judgedAs s kind (Running r) p from item
   unfolding judgedAs
   fails result e own er bad = simp (← is, e, eq-eqb (item .seq) (r .next) own, ← er, ne-eqb result accepted bad)
 
-  passes : (result : ℕ) → not b ≡ false → item .seq ≡ r .next → result ≡ itemVerdict s kind p r item → result ≡ accepted
+  passes : (result : ℕ) → not b ≡ false → item .seq ≡ r .next → result ≡ itemVerdict words s kind p r item → result ≡ accepted
       → Valid r ≡ judgedAs s kind (Running r) p from item
   unfolding judgedAs
   passes result e own er good = simp (← is, e, eq-eqb (item .seq) (r .next) own, ← er, eq-eqb result accepted good)

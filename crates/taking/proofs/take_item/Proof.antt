@@ -5,13 +5,15 @@ use Prim.Native.Nat.{ℕ, _≤_, _<_}
 use native.Mathlib.Omega.{arith}
 use lib.ListN.{length}
 use Rattle.rules.specs.Limits.{rally, sizeOf, storeWords}
-use Rattle.rules.specs.Payload.{Bytes}
-use Rattle.rules.specs.Messages.{Station, Item, itemOf}
+use Rattle.places.specs.Forms.{Store, words}
+use Rattle.rules.specs.Messages.{Station, Item}
+use Rattle.rules.specs.Words.{wordsOf}
 use Rattle.plan.specs.declared.Plan.{Plan}
 use Rattle.plan.specs.declared.Run.{Run}
 use Rattle.ranges.specs.Ranges.{uploadRanged}
 use Rattle.places.specs.Writes.{putAt, length-stays}
-use Rattle.rule_laws.specs.Layout.{length-itemOf}
+use Rattle.rule_laws.specs.Words.{length-wordsOf}
+use Rattle.places.specs.Places.{words-lawful}
 use Rattle.upload.specs.declared.Say.the-variants.{Ack, Ask}
 use Rattle.upload.specs.declared.Turned.{Turned}
 use Rattle.upload.specs.Turns.{ended, keeps, moves, TurnAndStore, turnWith, stored, validItemTurned, itemTurned}
@@ -22,9 +24,9 @@ use borrow.Author.Needs.{needs}
 use Rattle.taking.proofs.take_item.Statement.{statement}
 use Rattle.taking.proofs.take_item.Tie as tie
 
-module _ (s : Bytes) (kind : ℕ) (p : Plan) (from : Station) (now : ℕ) (item : Item) (j : Judged) (is : j ≡ judgedAs s kind (p .upload) p from item) where
+module _ (s : Store) (kind : ℕ) (p : Plan) (from : Station) (now : ℕ) (item : Item) (j : Judged) (is : j ≡ judgedAs s kind (p .upload) p from item) where
   abbrev step : TurnAndStore
-  step = itemTurned s kind (p .upload) p from now item
+  step = itemTurned words s kind (p .upload) p from now item
 
   as-judged : (k : Judged) → j ≡ k → turnedAs k s kind p now item ≡ step
   as-judged k e = sym (turned-judged s kind (p .upload) p from now item ∙ ap (λ (x : Judged). turnedAs x s kind p now item) (sym is ∙ e))
@@ -41,12 +43,12 @@ module _ (s : Bytes) (kind : ℕ) (p : Plan) (from : Station) (now : ℕ) (item 
   unfolding turnedAs
   fails result q t e eq et = rw (et, eq) (as-judged (Invalid result) e)
 
-  passes : (r : Run) (t : Turned) (s′ : Bytes) → j ≡ Valid r → s′ ≡ putAt s (not (p .half)) kind (r .next) (itemOf item)
-      → t ≡ validItemTurned s′ kind p r now .turned → turnWith t s′ ≡ step
+  passes : (r : Run) (t : Turned) (s′ : Store) → j ≡ Valid r → s′ ≡ putAt words s (not (p .half)) kind (r .next) (wordsOf item)
+      → t ≡ validItemTurned words s′ kind p r now .turned → turnWith t s′ ≡ step
   unfolding turnedAs
   passes r t s′ e es et =
       rw (et, es)
-      (ap (turnWith (validItemTurned (stored s kind p r item) kind p r now .turned)) (sym (valid-store (stored s kind p r item) kind p r now))
+      (ap (turnWith (validItemTurned words (stored words s kind p r item) kind p r now .turned)) (sym (valid-store (stored words s kind p r item) kind p r now))
       ∙ as-judged (Valid r) e)
 
   -- the upload's place is in the store, and the store keeps its length
@@ -57,11 +59,11 @@ module _ (s : Bytes) (kind : ℕ) (p : Plan) (from : Station) (now : ℕ) (item 
     place : (r : Run) (k : ℕ) → j ≡ Valid r → k ≤ r .next → k < sizeOf kind
     place r k e upto = let known = in-range r e in omega arith
 
-    long : (k : ℕ) (s′ : Bytes) → k < sizeOf kind → storeWords ≤ length s → kind ≤ rally
-        → s′ ≡ putAt s (not (p .half)) kind k (itemOf item) → storeWords ≤ length s′
+    long : (k : ℕ) (s′ : Store) → k < sizeOf kind → storeWords ≤ length s → kind ≤ rally
+        → s′ ≡ putAt words s (not (p .half)) kind k (wordsOf item) → storeWords ≤ length s′
     long k s′ fits enough known es =
         omega
-        (arith, ap length es, length-stays s enough (itemOf item) (length-itemOf item) (not (p .half)) kind k known fits)
+        (arith, ap length es, length-stays words words-lawful s enough (wordsOf item) (length-wordsOf item) (not (p .half)) kind k known fits)
 
 judge-requires : tie.Need-judge-requires
 judge-requires c κs = search needs

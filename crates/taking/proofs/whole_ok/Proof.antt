@@ -4,10 +4,9 @@ use mathlib.Core.Bool.{Bool, true}
 use Prim.Native.Nat.{ℕ, _≤_}
 use borrow.Author.Tests.{ne-eqb}
 use Rattle.rules.specs.Limits.{fence, sizeOf}
-use Rattle.rules.specs.Payload.{Bytes}
 use Rattle.rules.specs.Fence.{fenceOk}
 use Rattle.rules.specs.Model.{wholeOk}
-use Rattle.places.specs.Places.{itemsIn}
+use Rattle.places.specs.Forms.{Store, words, itemsIn}
 use borrow.Author.Needs.{needs}
 use Rattle.taking.proofs.whole_ok.Statement.{statement}
 use Rattle.taking.proofs.whole_ok.Tie as tie
@@ -15,11 +14,11 @@ use Rattle.taking.proofs.whole_ok.Tie as tie
 of-fence : (kind n : ℕ) → kind ≡ fence → n ≤ sizeOf kind → n ≤ sizeOf fence
 of-fence kind n e within = rw e at within
 
-judged : (store : Bytes) (half : Bool) (kind n : ℕ) (b : Bool) → kind ≡ fence → b ≡ fenceOk (itemsIn store half fence n) → b ≡ wholeOk kind (itemsIn store half kind n)
+judged : (store : Store) (half : Bool) (kind n : ℕ) (b : Bool) → kind ≡ fence → b ≡ fenceOk (itemsIn words store half fence n) → b ≡ wholeOk kind (itemsIn words store half kind n)
 unfolding wholeOk
 judged store half kind n b e eb = rw (e, eb)
 
-no-rule : (store : Bytes) (half : Bool) (kind n : ℕ) → (kind ≡ fence → ⊥) → true ≡ wholeOk kind (itemsIn store half kind n)
+no-rule : (store : Store) (half : Bool) (kind n : ℕ) → (kind ≡ fence → ⊥) → true ≡ wholeOk kind (itemsIn words store half kind n)
 unfolding wholeOk
 no-rule store half kind n other = rw (ne-eqb kind fence other)
 

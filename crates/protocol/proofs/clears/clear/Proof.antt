@@ -9,6 +9,7 @@ use Rattle.rules.specs.Payload.{Bytes}
 use Rattle.rules.specs.Messages.{Station, ack}
 use Rattle.rules.specs.Calls.{isKnown}
 use Rattle.rules.specs.Step.{says, covered}
+use Rattle.places.specs.Forms.{Store}
 use Rattle.plan.specs.declared.Plan.{Plan}
 use Rattle.upload.specs.declared.Effect.{Effect}
 use Rattle.upload.specs.declared.Effect.the-variants.{Nothing}
@@ -26,7 +27,7 @@ module _ (p q r : Plan) (from : Station) (kind : ℕ) (b b′ : Bytes) (others :
   plans = p ∷ q ∷ r ∷ []
 
   denies : (h : Handled) → others ≡ true → Spoken (says (ack from denied kind 0)) b b′ said → h ≡ record { effect = Nothing; said = said }
-      → (store : Bytes) → DoneBy (clearDone plans store from kind) store b b′ h
+      → (store : Store) → DoneBy (clearDone plans store from kind) store b b′ h
   unfolding clearDone
   denies h is spoken eh store =
       let t : othersAmong plans from (covered kind) ≡ true = sym among ∙ is in
@@ -35,7 +36,7 @@ module _ (p q r : Plan) (from : Station) (kind : ℕ) (b b′ : Bytes) (others :
   clears : (x : Plan) (e : Effect) → others ≡ false → (isKnown kind || eqb kind everyKind) ≡ true → IsPlanOf kind x p q r
       → ((a b c : Plan) → (isKnown kind || eqb kind everyKind) ≡ true → IsPlanOf kind x a b c → e ≡ clearEffect (a ∷ b ∷ c ∷ []) kind)
       → Spoken (says (ack from accepted kind 0)) b b′ said
-      → (store : Bytes) → DoneBy (clearDone plans store from kind) store b b′ (record { effect = e; said = said })
+      → (store : Store) → DoneBy (clearDone plans store from kind) store b b′ (record { effect = e; said = said })
   unfolding clearDone
   clears x e is covers of ee spoken store =
       let t : othersAmong plans from (covered kind) ≡ false = sym among ∙ is in
