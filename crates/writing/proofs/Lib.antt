@@ -1,3 +1,4 @@
 -- Laws that the proofs cite.
 mod Ways
 mod WordWays
+mod SameWays

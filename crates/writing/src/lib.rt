@@ -1,5 +1,6 @@
-// Bytes and words written over others, in a store that a host writes.
+// Bytes and words written over others, in a store that a host writes, and words compared.
 ghost use mathlib.Core.Path.{_≡_};
+ghost use mathlib.Core.Bool.{true};
 ghost use Rattle.writing.specs.Written.{written, wordsWritten};
 
 pub const WORD_BYTES: usize = 4;
@@ -36,4 +37,21 @@ pub fn write_words(store: &mut [u32], at: usize, payload: &[u8])
         store[at + i] = fields::u32_at(payload, i * WORD_BYTES);
         i += 1;
     }
+}
+
+// Whether two slices hold the same words.
+pub fn same_words(a: &[u32], b: &[u32]) -> bool
+    ensures { λ r. ⌜ (r ≡ true → now (a .entry) ≡ now (b .entry)) × (now (a .entry) ≡ now (b .entry) → r ≡ true) ⌝ }
+{
+    if a.len() != b.len() {
+        return false;
+    }
+    let mut i: usize = 0;
+    while i < a.len() {
+        if a[i] != b[i] {
+            return false;
+        }
+        i += 1;
+    }
+    true
 }
