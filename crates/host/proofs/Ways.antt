@@ -12,7 +12,9 @@ use Rattle.plan.specs.declared.Run.{Run}
 use Rattle.plan.specs.declared.State.{State}
 use Rattle.plan.specs.declared.Upload.{Upload}
 use Rattle.plan.specs.declared.Upload.the-variants.{Idle, Running}
-use Rattle.plan.specs.View.{emptyPlan}
+use Rattle.places.specs.Forms.{words, offsetOf}
+use Rattle.plan.specs.View.{emptyPlan, planOf}
+use Rattle.host.specs.Items.{itemPlace}
 use Rattle.host.specs.Pokes.{pokedRun, pokedUpload, pokedPlan, pokedPlans, pokedCounts, pokedState}
 
 module _ (u : Upload) (field v : ℕ) where
@@ -75,3 +77,17 @@ module _ (counts : List ℕ) (field index v : ℕ) where
   pub count-left : (eqb field 12 && ltb index maxJumps) ≡ false → counts ≡ pokedCounts counts field index v
   unfolding pokedCounts
   count-left e = rw e
+
+module _ (st : State) (kind : ℕ) (other : Bool) (n : ℕ) where
+  pub no-plan : rally < kind → 0 ≡ itemPlace st kind other n
+  unfolding itemPlace
+  no-plan h = rw (lt-leb kind rally h)
+
+  module _ (h : kind ≤ rally) (r : ℕ) where
+    pub other-half : other ≡ true → r ≡ offsetOf words (not (planOf st kind .half)) kind n → r ≡ itemPlace st kind other n
+    unfolding itemPlace
+    other-half e is = rw (le-leb kind rally h, e) is
+
+    pub own-half : other ≡ false → r ≡ offsetOf words (planOf st kind .half) kind n → r ≡ itemPlace st kind other n
+    unfolding itemPlace
+    own-half e is = rw (le-leb kind rally h, e) is

@@ -1,8 +1,9 @@
-// What a host does to the state between the calls: it sets a number of it.
+// What a host does between the calls: it sets a number of the state, and it writes items, for which it has to know where they stand.
 ghost use Prim.Native.Nat.{_%_};
 ghost use mathlib.Core.Path.{_≡_};
 ghost use mathlib.Core.Bool.{cond};
 ghost use Rattle.host.specs.Pokes.{pokedRun, pokedUpload, pokedPlan, pokedPlans, pokedCounts, pokedState};
+ghost use Rattle.host.specs.Items.{itemPlace};
 use limits::JUMP_COUNTS;
 use limits::RALLY;
 use plan::Plan;
@@ -124,4 +125,20 @@ pub fn poked(state: State, field: u8, index: u8, value: u32) -> State
         begun: set_flag(field == 11, value != 0, state.begun),
         counts: poked_counts(counts, field, index, value),
     }
+}
+
+// The store's word from which a host writes items, of the plan of a kind from number n on, in the half that the plan is in or in the other one. A kind that
+// is none has no plan, and the store's first word stands for it.
+pub fn item_place(state: State, kind: u8, other: bool, n: u16) -> usize
+    ensures { λ r. ⌜ r ≡ itemPlace state kind other n ⌝ }
+{
+    if RALLY < kind {
+        return 0;
+    }
+    let index = kind as usize;
+    let plan = state.plans[index];
+    if other {
+        return places::place_at(kind, !plan.half, n);
+    }
+    places::place_at(kind, plan.half, n)
 }
