@@ -4,6 +4,7 @@ mod play;
 use script::HEADER_BYTES;
 use script::MOST_PAYLOAD;
 use script::Next;
+use script::OLD_ARRAY;
 use script::STORE_ARRAY;
 use streams::Unread;
 
@@ -23,8 +24,10 @@ fn main() {
     let mut out_array = [0u8; OUTPUT];
     let input: &mut [u8] = &mut input_array;
     let out: &mut [u8] = &mut out_array;
-    let mut store = [0u8; STORE_ARRAY];
-    let mut copy = [0u8; STORE_ARRAY];
+    let mut store = [0u32; STORE_ARRAY];
+    let mut copy = [0u32; STORE_ARRAY];
+    let mut old = [0u8; OLD_ARRAY];
+    let mut old_copy = [0u8; OLD_ARRAY];
     // The state before a record and the state after it stand in two places in turn.
     let first = service::fresh();
     let mut states = [first; 2];
@@ -59,7 +62,17 @@ fn main() {
                         at = played.at;
                     }
                     _ => {
-                        let played = play::other(r, payload, out, at, &mut store, &mut copy, state);
+                        let played = play::other(
+                            r,
+                            payload,
+                            out,
+                            at,
+                            &mut store,
+                            &mut copy,
+                            &mut old,
+                            &mut old_copy,
+                            state,
+                        );
                         let after = played.state;
                         states[which] = after;
                         at = played.at;

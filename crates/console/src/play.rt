@@ -2,6 +2,7 @@
 use lines::REPLY_FILL;
 use plan::State;
 use script::HEADER_BYTES;
+use script::OLD_ARRAY;
 use script::REPLY_ARRAY;
 use script::Record;
 use script::STORE_ARRAY;
@@ -13,10 +14,15 @@ pub struct Played {
     pub at: usize,
 }
 
-// The front part of an array that a call is lent.
+// The front part of an array that a call is lent: of bytes, and of words.
 fn front(bytes: &mut [u8], n: usize) -> &mut [u8] {
     let end = text::within(n, bytes);
     &mut bytes[..end]
+}
+
+fn front_words(words: &mut [u32], n: usize) -> &mut [u32] {
+    let end = text::within_words(n, words);
+    &mut words[..end]
 }
 
 // A message call, which is lent a front part of a slice.
@@ -25,13 +31,13 @@ fn deliver(
     payload: &[u8],
     out: &mut [u8],
     at: usize,
-    store: &mut [u8],
+    store: &mut [u32],
     state: State,
 ) -> Played {
     let mut reply = [REPLY_FILL; REPLY_ARRAY];
     let served = service::message(
         state,
-        front(store, r.store),
+        front_words(store, r.store),
         front(&mut reply, r.reply),
         r.b0,
         r.b1,
@@ -52,7 +58,7 @@ pub fn message(
     payload: &[u8],
     out: &mut [u8],
     at: usize,
-    store: &mut [u8; STORE_ARRAY],
+    store: &mut [u32; STORE_ARRAY],
     state: State,
 ) -> Played {
     deliver(r, payload, out, at, store, state)
@@ -62,7 +68,7 @@ pub fn timer(
     r: Record,
     out: &mut [u8],
     at: usize,
-    store: &[u8; STORE_ARRAY],
+    store: &[u32; STORE_ARRAY],
     state: State,
 ) -> Played {
     let mut reply = [REPLY_FILL; REPLY_ARRAY];
@@ -70,7 +76,7 @@ pub fn timer(
     let reply_end = text::within(r.reply, lent);
     let served = service::timer(
         state,
-        text::part(store, 0, r.store),
+        text::part_words(store, 0, r.store),
         &mut lent[..reply_end],
         r.b4,
         r.clock,
@@ -80,35 +86,111 @@ pub fn timer(
     Played { state, at }
 }
 
-fn done(r: Record, out: &mut [u8], at: usize, store: &[u8], state: State) -> Played {
-    let advanced = service::advance(state, text::part(store, 0, r.store));
+fn done(r: Record, out: &mut [u8], at: usize, store: &[u32], state: State) -> Played {
+    let advanced = service::advance(state, text::part_words(store, 0, r.store));
     let command = advanced.command;
     let at = lines::put_done(out, at, advanced.outcome, command);
     let state = advanced.state;
     Played { state, at }
 }
 
+// A move: the plans of the old store go into the store.
+fn moved(
+    r: Record,
+    out: &mut [u8],
+    at: usize,
+    store: &mut [u32],
+    old: &[u8],
+    state: State,
+) -> Played {
+    let from = text::part(old, 0, r.a as usize);
+    let moved = moves::to_words(state, from, front_words(store, r.store));
+    let at = lines::put_moved(out, at, moved.outcome);
+    let state = moved.state;
+    Played { state, at }
+}
+
+// A word whose four bytes are the same.
+fn filled(byte: u8) -> u32 {
+    byte as u32 * 0x101_0101
+}
+
+// Copies the store array or the old one aside.
+fn snap(
+    r: Record,
+    store: &[u32; STORE_ARRAY],
+    copy: &mut [u32; STORE_ARRAY],
+    old: &[u8; OLD_ARRAY],
+    old_copy: &mut [u8; OLD_ARRAY],
+) {
+    if r.b4 == script::OLD {
+        *old_copy = *old;
+        return;
+    }
+    *copy = *store;
+}
+
+// Whether the store array or the old one is as its copy.
+fn same(
+    r: Record,
+    store: &[u32; STORE_ARRAY],
+    copy: &[u32; STORE_ARRAY],
+    old: &[u8; OLD_ARRAY],
+    old_copy: &[u8; OLD_ARRAY],
+) -> bool {
+    if r.b4 == script::OLD {
+        return check::same(old, old_copy);
+    }
+    writing::same_words(store, copy)
+}
+
+// A host writes words, items of a plan in either half, or bytes of the old store.
+fn write(
+    r: Record,
+    payload: &[u8],
+    store: &mut [u32; STORE_ARRAY],
+    old: &mut [u8; OLD_ARRAY],
+    state: State,
+) {
+    let to = r.b4;
+    let a = r.a as usize;
+    if to == script::TO_OLD {
+        writing::write(old, a, payload);
+        return;
+    }
+    if to == script::TO_WORDS {
+        writing::write_words(store, a, payload);
+        return;
+    }
+    let n = (r.a % 0x1_0000) as u16;
+    let place = host::item_place(state, r.b0, to == script::TO_OTHER_HALF, n);
+    writing::write_words(store, place, payload);
+}
+
 // What a host does between the calls.
 fn between(
     r: Record,
     payload: &[u8],
-    store: &mut [u8; STORE_ARRAY],
-    copy: &mut [u8; STORE_ARRAY],
+    store: &mut [u32; STORE_ARRAY],
+    copy: &mut [u32; STORE_ARRAY],
+    old: &mut [u8; OLD_ARRAY],
+    old_copy: &mut [u8; OLD_ARRAY],
     state: State,
 ) -> State {
     let kind = r.kind;
     match kind {
         script::FRESH => {
-            *store = [r.b0; STORE_ARRAY];
+            *store = [filled(r.b0); STORE_ARRAY];
+            *old = [r.b0; OLD_ARRAY];
             service::fresh()
         }
         script::SNAP => {
-            *copy = *store;
+            snap(r, store, copy, old, old_copy);
             state
         }
         script::POKE => host::poked(state, r.b4, r.b0, r.a),
         script::WRITE => {
-            writing::write(store, r.a as usize, payload);
+            write(r, payload, store, old, state);
             state
         }
         _ => state,
@@ -121,8 +203,10 @@ pub fn other(
     payload: &[u8],
     out: &mut [u8],
     at: usize,
-    store: &mut [u8; STORE_ARRAY],
-    copy: &mut [u8; STORE_ARRAY],
+    store: &mut [u32; STORE_ARRAY],
+    copy: &mut [u32; STORE_ARRAY],
+    old: &mut [u8; OLD_ARRAY],
+    old_copy: &mut [u8; OLD_ARRAY],
     state: State,
 ) -> Played {
     let kind = r.kind;
@@ -133,11 +217,12 @@ pub fn other(
             Played { state, at }
         }
         script::CMP => {
-            let at = rows::put_row(out, at, b's', &[check::same(store, copy) as u64]);
+            let at = rows::put_row(out, at, b's', &[same(r, store, copy, old, old_copy) as u64]);
             Played { state, at }
         }
+        script::MOVE => moved(r, out, at, store, old, state),
         _ => {
-            let state = between(r, payload, store, copy, state);
+            let state = between(r, payload, store, copy, old, old_copy, state);
             Played { state, at }
         }
     }
