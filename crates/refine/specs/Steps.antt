@@ -18,7 +18,7 @@ use Rattle.rules.specs.Step.{refused, orders, isRefused, Stepped, covered, kind
 use Rattle.rule_laws.specs.Tests.{both, either}
 use Rattle.rule_laws.specs.Kinds.{known-below}
 use Rattle.rule_laws.specs.Lists.{at-set}
-use Rattle.rule_laws.specs.Brought.{HeardKind, heard-kind}
+use Rattle.rule_laws.specs.Brought.{request-kind}
 use Rattle.rule_laws.specs.Refused.{message-answered, timer-answered}
 use Rattle.plan.specs.declared.State.{State}
 use Rattle.plan.specs.declared.Plan.{Plan}
@@ -355,7 +355,7 @@ module _ (F : Form) (lawful : Lawful F) where
         → Steps c st s (afterMessage F st s from now k r)
     unfolding act
     message-steps long from now k r e =
-        heard-steps c st s (request from now k r) (afterMessage F st s from now k r) ranged e (message-agrees F lawful st s three long ranged from now k r (subst HeardKind e (heard-kind (inRange (viewIn F st s)) c)))
+        heard-steps c st s (request from now k r) (afterMessage F st s from now k r) ranged e (message-agrees F lawful st s three long ranged from now k r (request-kind (inRange (viewIn F st s)) c e))
         (message-halves st s three long ranged from now k r) (message-answered (viewIn F st s) from now k r) (message-beside st s three long ranged from now k r)
 
     -- a timer call that is not refused
