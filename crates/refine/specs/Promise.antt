@@ -1,23 +1,24 @@
--- The promise of every call, `Serves`, over any type of states and what they show; and what the service's own state says of halves and spare bytes.
+-- The promise of every call, `Serves`, over any type of states and what they show; and what the service's own state says of halves and of the spare places of a
+-- store of a form.
 use Prim.Native.Nat.{ℕ, _+_, _≤_}
 use mathlib.Core.Path.{_≡_}
 use mathlib.Core.List.{_++_}
 use mathlib.Core.Bool.{Bool, true, false, not, cond, _&&_}
 use lib.ListN.{length, getD, take, drop}
 use lib.Dec.{eqb, leb, ltb}
-use Rattle.rules.specs.Limits.{rally, itemBytes}
+use Rattle.rules.specs.Limits.{rally, storeWords}
 use Rattle.rules.specs.Payload.{Bytes}
 use Rattle.rules.specs.Messages.{Station, sameStation}
 use Rattle.rules.specs.Model as model
 use Rattle.rules.specs.Model.{Model}
 use Rattle.rules.specs.NextCommand.{Command}
-use Rattle.rules.specs.Calls.{Call, chooses, asksList, announces, clears, acknowledges, asksItem, brings, Heard, refuses, request, expiry, commandDone, isKnown, heard}
+use Rattle.rules.specs.Calls.{Call, storeLent, chooses, asksList, announces, clears, acknowledges, asksItem, brings, Heard, refuses, request, expiry, commandDone, isKnown, heard}
 use Rattle.rules.specs.Step.{isRefused, outcomeOf, replyId, replyBytes, commandIn, ReadsBack, step}
 use Rattle.plan.specs.declared.State.{State}
 use Rattle.plan.specs.declared.Plan.{Plan}
 use Rattle.plan.specs.declared.Upload.{Upload}
 use Rattle.plan.specs.declared.Upload.the-variants.{Idle, Running}
-use Rattle.places.specs.Places.{offsetOf}
+use Rattle.places.specs.Forms.{Store, Form, least, offsetOf}
 use Rattle.plan.specs.View.{planOf, stationIn}
 
 -- what a call returns: the new state, the outcome, the reply's id and length, and the command of a "command done" call (Stuck for any other call)
@@ -32,11 +33,11 @@ pub record Result (State : Type 0) : Type 0 where
 abbrev pub numberOf : Model → (kind : ℕ) → ℕ
 numberOf m kind = model.planOf (m .shown) kind .number
 
--- `view` is what a state and a store show, `half` says in which half of the store a kind's plan stands, and `spare` which bytes of the store a call
--- may change though nothing shows them.
-module _ (State : Type 0) (view : State → Bytes → Model) (half : State → ℕ → Bool) (spare : State → Call → ℕ → Bool) where
+-- `view` is what a state and a store show, `half` says in which half of the store a kind's plan stands, and `spare` which of the store's numbers a
+-- call may change though nothing shows them.
+module _ (State : Type 0) (view : State → Store → Model) (half : State → ℕ → Bool) (spare : State → Call → ℕ → Bool) where
   -- Call c on state st, store s and reply buffer b gives the result r, store s′ and buffer b′.
-  pub record Serves (c : Call) (st : State) (s s′ b b′ : Bytes) (r : Result State) : Type 0 where
+  pub record Serves (c : Call) (st : State) (s s′ : Store) (b b′ : Bytes) (r : Result State) : Type 0 where
     -- "which outcome, reply" and command: those of the rules
     pub outcome : r .outcome ≡ outcomeOf (step (view st s) c .answer)
     pub id : r .id ≡ replyId (step (view st s) c .answer)
@@ -54,7 +55,7 @@ module _ (State : Type 0) (view : State → Bytes → Model) (half : State → �
         → half (r .state) k ≡ cond (eqb (numberOf (step (view st s) c .model) k) (numberOf (view st s) k)) (half st k) (not (half st k))
     -- a refused call changes nothing
     pub unchanged : isRefused (step (view st s) c .answer) ≡ true → (r .state ≡ st) × (s′ ≡ s)
-    -- no byte of the store changes beside the spare ones
+    -- no number of the store changes beside the spare ones
     pub beside : (i : ℕ) → spare st c i ≡ false → getD s′ i 0 ≡ getD s i 0
     pub long : length s′ ≡ length s
 
@@ -64,31 +65,36 @@ module _ (State : Type 0) (view : State → Bytes → Model) (half : State → �
 abbrev pub halfOf : State → ℕ → Bool
 halfOf st kind = planOf st kind .half
 
--- byte i of the store is one of an item place's
-abbrev pub inPlace : (half : Bool) (kind n i : ℕ) → Bool
-inPlace half kind n i = leb (offsetOf half kind n) i && ltb i (offsetOf half kind n + itemBytes)
+module _ (F : Form) where
+  -- n of a store's numbers are too few for a call exactly where the rules, which count words, say so
+  abbrev pub LentIn : Call → ℕ → Type 0
+  LentIn c n = ltb n (least F) ≡ ltb (storeLent c) storeWords
 
--- An item of a kind, with number seq and from a station, may change the bytes of one place: that of the item which the kind's upload expects next, in the
--- half that the plan is not in; and only where the upload is the station's own and seq the number that it expects.
-unfoldable pub spareIn : Plan → (kind : ℕ) → Upload → Station → (seq i : ℕ) → Bool
-spareIn p kind Idle from seq i = false
-spareIn p kind (Running r) from seq i =
-    sameStation from (stationIn r) && eqb seq (r .next) && inPlace (not (p .half)) kind (r .next) i
+  -- number i of the store is one of an item place's
+  abbrev pub inPlace : (half : Bool) (kind n i : ℕ) → Bool
+  inPlace half kind n i = leb (offsetOf F half kind n) i && ltb i (offsetOf F half kind n + F .width)
 
--- no other call changes any byte of the store
-unfoldable pub spareAt : State → Heard → ℕ → Bool
-spareAt st (request from now kind (brings item)) i = isKnown kind && spareIn (planOf st kind) kind (planOf st kind .upload) from (item .seq) i
-spareAt st (request from now kind (chooses seq)) i = false
-spareAt st (request from now kind asksList) i = false
-spareAt st (request from now kind (announces n)) i = false
-spareAt st (request from now kind clears) i = false
-spareAt st (request from now kind (acknowledges result)) i = false
-spareAt st (request from now kind (asksItem seq)) i = false
-spareAt st (refuses outcome) i = false
-spareAt st (expiry now kind) i = false
-spareAt st commandDone i = false
+  -- An item of a kind, with number seq and from a station, may change one place: that of the item which the kind's upload expects next, in the half that the
+  -- plan is not in; and only where the upload is the station's own and seq the number that it expects.
+  unfoldable pub spareIn : Plan → (kind : ℕ) → Upload → Station → (seq i : ℕ) → Bool
+  spareIn p kind Idle from seq i = false
+  spareIn p kind (Running r) from seq i =
+      sameStation from (stationIn r) && eqb seq (r .next) && inPlace (not (p .half)) kind (r .next) i
 
--- The bytes that a call may change though nothing shows them. Which of them an item changes that is invalid, or the last of a fence that fails, is free;
--- those of an item that is taken are shown.
-abbrev pub spare : State → Call → ℕ → Bool
-spare st c i = spareAt st (heard true c) i
+  -- no other call changes anything in the store
+  unfoldable pub spareAt : State → Heard → ℕ → Bool
+  spareAt st (request from now kind (brings item)) i = isKnown kind && spareIn (planOf st kind) kind (planOf st kind .upload) from (item .seq) i
+  spareAt st (request from now kind (chooses seq)) i = false
+  spareAt st (request from now kind asksList) i = false
+  spareAt st (request from now kind (announces n)) i = false
+  spareAt st (request from now kind clears) i = false
+  spareAt st (request from now kind (acknowledges result)) i = false
+  spareAt st (request from now kind (asksItem seq)) i = false
+  spareAt st (refuses outcome) i = false
+  spareAt st (expiry now kind) i = false
+  spareAt st commandDone i = false
+
+  -- What a call may change in the store though nothing shows it. What an item changes there that is invalid, or the last of a fence that fails, is free; an item
+  -- that is taken is shown.
+  abbrev pub spare : State → Call → ℕ → Bool
+  spare st c i = spareAt st (heard true c) i

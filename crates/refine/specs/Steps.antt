@@ -8,9 +8,8 @@ use mathlib.Core.Bool.{Bool, true, false, true≢false, not, cond, _&&_, or-fals
 use lib.ListN.{length, getD, set, length-set}
 use lib.Dec.{eqb, leb, ltb}
 use borrow.Author.Tests.{leb-true, le-leb, eq-eqb, ne-eqb, eqb-true, ltb-false, leb-false, not-false}
-use Rattle.rules.specs.Limits.{flight, rally, kinds, everyKind, sizeOf, itemBytes, storeWords, accepted, maxRepeats, expiryMs, lastNumber}
-use Rattle.rules.specs.Payload.{Bytes}
-use Rattle.rules.specs.Messages.{Station, Item, itemOf, sameStation}
+use Rattle.rules.specs.Limits.{flight, rally, kinds, everyKind, sizeOf, accepted, maxRepeats, expiryMs, lastNumber}
+use Rattle.rules.specs.Messages.{Station, Item, sameStation}
 use Rattle.rules.specs.Model as model
 use Rattle.rules.specs.Model.{Model, nextNumber, elapsed, wholeOk, every, inRange}
 use Rattle.rules.specs.Calls.{Call, Request, chooses, asksList, announces, clears, acknowledges, asksItem, brings, Heard, refuses, request, expiry, commandDone, isKnown, heard}
@@ -19,7 +18,7 @@ use Rattle.rules.specs.Step.{refused, orders, isRefused, Stepped, covered, kind
 use Rattle.rule_laws.specs.Tests.{both, either}
 use Rattle.rule_laws.specs.Kinds.{known-below}
 use Rattle.rule_laws.specs.Lists.{at-set}
-use Rattle.rule_laws.specs.Layout.{length-itemOf}
+use Rattle.rule_laws.specs.Brought.{request-kind}
 use Rattle.rule_laws.specs.Refused.{message-answered, timer-answered}
 use Rattle.plan.specs.declared.State.{State}
 use Rattle.plan.specs.declared.Plan.{Plan}
@@ -27,9 +26,10 @@ use Rattle.plan.specs.declared.Run.{Run}
 use Rattle.plan.specs.declared.Upload.{Upload}
 use Rattle.plan.specs.declared.Upload.the-variants.{Idle, Running}
 use Rattle.places.specs.Part.{getD-put-before, getD-put-after}
-use Rattle.places.specs.Places.{itemsIn, offsetOf, offset-within}
+use Rattle.places.specs.Forms.{Store, Form, least, itemsIn, offsetOf}
+use Rattle.places.specs.Places.{Lawful, offset-within}
 use Rattle.places.specs.Writes.{length-stays}
-use Rattle.plan.specs.View.{emptyPlan, planOf, view, stationIn}
+use Rattle.plan.specs.View.{emptyPlan, planOf, viewIn, stationIn}
 use Rattle.upload.specs.declared.Effect.{Effect}
 use Rattle.upload.specs.declared.Effect.the-variants.{Nothing, Turns, Renews, EmptiesAll, Chooses}
 use Rattle.upload.specs.declared.Turned.{Turned}
@@ -44,332 +44,333 @@ use Rattle.refine.specs.Items.{next-below}
 use Rattle.refine.specs.Messages.{unknown-turn, message-agrees}
 use Rattle.refine.specs.Promise.{numberOf, halfOf, inPlace, spareIn, spareAt, spare}
 
--- ---- halves
+module _ (F : Form) (lawful : Lawful F) where
+  -- ---- halves
 
--- a plan's half turns over exactly where its number moved
-abbrev HalfOk : Plan → Plan → Type 0
-HalfOk before after = after .half ≡ cond (eqb (after .number) (before .number)) (before .half) (not (before .half))
+  -- a plan's half turns over exactly where its number moved
+  abbrev HalfOk : Plan → Plan → Type 0
+  HalfOk before after = after .half ≡ cond (eqb (after .number) (before .number)) (before .half) (not (before .half))
 
--- the number after n is another
-next-moves : (n : ℕ) → eqb (nextNumber n) n ≡ false
-unfolding nextNumber
-next-moves n = go (eqb n lastNumber) refl
-  where
-    go : (t : Bool) → eqb n lastNumber ≡ t → eqb (cond t 1 (n + 1)) n ≡ false
-    go true t = let last : n ≡ lastNumber = eqb-true n lastNumber t in ne-eqb 1 n (λ e. omega arith)
-    go false t = ne-eqb (n + 1) n (λ e. omega arith)
+  -- the number after n is another
+  next-moves : (n : ℕ) → eqb (nextNumber n) n ≡ false
+  unfolding nextNumber
+  next-moves n = go (eqb n lastNumber) refl
+    where
+      go : (t : Bool) → eqb n lastNumber ≡ t → eqb (cond t 1 (n + 1)) n ≡ false
+      go true t = let last : n ≡ lastNumber = eqb-true n lastNumber t in ne-eqb 1 n (λ e. omega arith)
+      go false t = ne-eqb (n + 1) n (λ e. omega arith)
 
--- a plan that keeps its half and number
-stays-ok : (p q : Plan) → q .half ≡ p .half → q .number ≡ p .number → HalfOk p q
-stays-ok p q h n = h ∙ ap (λ (t : Bool). cond t (p .half) (not (p .half))) (sym (eq-eqb (q .number) (p .number) n))
+  -- a plan that keeps its half and number
+  stays-ok : (p q : Plan) → q .half ≡ p .half → q .number ≡ p .number → HalfOk p q
+  stays-ok p q h n = h ∙ ap (λ (t : Bool). cond t (p .half) (not (p .half))) (sym (eq-eqb (q .number) (p .number) n))
 
--- a plan that a call puts in is of a known kind, and its half is so
-abbrev pub EffectOk : (k : ℕ) → Plan → Effect → Type 0
-EffectOk k p Nothing = Unit
-EffectOk k p (Turns q) = (isKnown k ≡ true) × HalfOk p q
-EffectOk k p (Renews q) = (isKnown k ≡ true) × HalfOk p q
-EffectOk k p EmptiesAll = Unit
-EffectOk k p (Chooses seq) = Unit
+  -- a plan that a call puts in is of a known kind, and its half is so
+  abbrev pub EffectOk : (k : ℕ) → Plan → Effect → Type 0
+  EffectOk k p Nothing = Unit
+  EffectOk k p (Turns q) = (isKnown k ≡ true) × HalfOk p q
+  EffectOk k p (Renews q) = (isKnown k ≡ true) × HalfOk p q
+  EffectOk k p EmptiesAll = Unit
+  EffectOk k p (Chooses seq) = Unit
 
-same-ok : (p : Plan) → HalfOk p p
-same-ok p = stays-ok p p refl refl
+  same-ok : (p : Plan) → HalfOk p p
+  same-ok p = stays-ok p p refl refl
 
--- each turn of a known kind's plan
-module _ (k : ℕ) (known : isKnown k ≡ true) (p : Plan) where
-  abbrev TurnOk : Turned → Type 0
-  TurnOk t = EffectOk k p (t .effect)
+  -- each turn of a known kind's plan
+  module _ (k : ℕ) (known : isKnown k ≡ true) (p : Plan) where
+    abbrev TurnOk : Turned → Type 0
+    TurnOk t = EffectOk k p (t .effect)
 
-  ended-ok : (isKnown k ≡ true) × HalfOk p (ended p)
-  ended-ok = (known, stays-ok p (ended p) refl refl)
+    ended-ok : (isKnown k ≡ true) × HalfOk p (ended p)
+    ended-ok = (known, stays-ok p (ended p) refl refl)
 
-  emptied-ok : (isKnown k ≡ true) × HalfOk p (emptied p)
-  emptied-ok = (known, stays-ok p (emptied p) refl refl)
+    emptied-ok : (isKnown k ≡ true) × HalfOk p (emptied p)
+    emptied-ok = (known, stays-ok p (emptied p) refl refl)
 
-  runs-ok : (r : Run) → (isKnown k ≡ true) × HalfOk p (withUpload p (Running r))
-  runs-ok r = (known, stays-ok p (withUpload p (Running r)) refl refl)
+    runs-ok : (r : Run) → (isKnown k ≡ true) × HalfOk p (withUpload p (Running r))
+    runs-ok r = (known, stays-ok p (withUpload p (Running r)) refl refl)
 
-  count-ok : (from : Station) (now n size : ℕ) → TurnOk (countTurned p from now n size)
-  unfolding countTurned
-  count-ok from now n size =
-      either TurnOk (othersUpload from (p .upload)) (λ t. tt)
-      (λ t. either TurnOk (ltb size n) (λ t. ended-ok) (λ t. either TurnOk (eqb n 0) (λ t. emptied-ok) (λ t. runs-ok (started from now n))))
+    count-ok : (from : Station) (now n size : ℕ) → TurnOk (countTurned p from now n size)
+    unfolding countTurned
+    count-ok from now n size =
+        either TurnOk (othersUpload from (p .upload)) (λ t. tt)
+        (λ t. either TurnOk (ltb size n) (λ t. ended-ok) (λ t. either TurnOk (eqb n 0) (λ t. emptied-ok) (λ t. runs-ok (started from now n))))
 
-  ack-ok : (from : Station) (result : ℕ) → TurnOk (ackTurned p from result)
-  unfolding ackTurned
-  ack-ok from result = either TurnOk (ownUpload from (p .upload) && not (eqb result accepted)) (λ t. ended-ok) (λ t. tt)
+    ack-ok : (from : Station) (result : ℕ) → TurnOk (ackTurned p from result)
+    unfolding ackTurned
+    ack-ok from result = either TurnOk (ownUpload from (p .upload) && not (eqb result accepted)) (λ t. ended-ok) (λ t. tt)
 
-  timer-ok : (u : Upload) (now : ℕ) → TurnOk (timerTurned u p now)
-  unfolding timerTurned
-  timer-ok Idle now = tt
-  timer-ok (Running r) now =
-      either TurnOk (ltb (elapsed now (r .started)) expiryMs) (λ t. tt)
-      (λ t. either TurnOk (ltb (r .repeats) maxRepeats) (λ t. runs-ok (askedAgain r now)) (λ t. ended-ok))
+    timer-ok : (u : Upload) (now : ℕ) → TurnOk (timerTurned u p now)
+    unfolding timerTurned
+    timer-ok Idle now = tt
+    timer-ok (Running r) now =
+        either TurnOk (ltb (elapsed now (r .started)) expiryMs) (λ t. tt)
+        (λ t. either TurnOk (ltb (r .repeats) maxRepeats) (λ t. runs-ok (askedAgain r now)) (λ t. ended-ok))
 
-  replaced-ok : (n : ℕ) → (isKnown k ≡ true) × HalfOk p (replaced p n)
-  replaced-ok n = (known, ap (λ (t : Bool). cond t (p .half) (not (p .half))) (sym (next-moves (p .number))))
+    replaced-ok : (n : ℕ) → (isKnown k ≡ true) × HalfOk p (replaced p n)
+    replaced-ok n = (known, ap (λ (t : Bool). cond t (p .half) (not (p .half))) (sym (next-moves (p .number))))
 
-  abbrev StoredTurnOk : TurnAndStore → Type 0
-  StoredTurnOk t = TurnOk (t .turned)
+    abbrev StoredTurnOk : TurnAndStore → Type 0
+    StoredTurnOk t = TurnOk (t .turned)
 
-  valid-ok : (s : Bytes) (r : Run) (now : ℕ) → StoredTurnOk (validItemTurned s k p r now)
-  unfolding validItemTurned
-  valid-ok s r now =
-      either StoredTurnOk (not (eqb (r .next + 1) (r .count))) (λ t. runs-ok (oneMore r now))
-      (λ t. either StoredTurnOk (wholeOk k _) (λ t. replaced-ok (r .count)) (λ t. ended-ok))
+    valid-ok : (s : Store) (r : Run) (now : ℕ) → StoredTurnOk (validItemTurned F s k p r now)
+    unfolding validItemTurned
+    valid-ok s r now =
+        either StoredTurnOk (not (eqb (r .next + 1) (r .count))) (λ t. runs-ok (oneMore r now))
+        (λ t. either StoredTurnOk (wholeOk k _) (λ t. replaced-ok (r .count)) (λ t. ended-ok))
 
-  item-ok : (s : Bytes) (u : Upload) (from : Station) (now : ℕ) (item : Item) → StoredTurnOk (itemTurned s k u p from now item)
-  unfolding itemTurned
-  item-ok s Idle from now item = tt
-  item-ok s (Running r) from now item =
-      either StoredTurnOk (not (sameStation from (stationIn r))) (λ t. tt)
-      (λ t. either StoredTurnOk (not (eqb (item .seq) (r .next))) (λ t. tt)
-      (λ t. either StoredTurnOk (not (eqb (itemVerdict s k p r item) accepted)) (λ t. ended-ok) (λ t. valid-ok (stored s k p r item) r now)))
+    item-ok : (s : Store) (u : Upload) (from : Station) (now : ℕ) (item : Item) → StoredTurnOk (itemTurned F s k u p from now item)
+    unfolding itemTurned
+    item-ok s Idle from now item = tt
+    item-ok s (Running r) from now item =
+        either StoredTurnOk (not (sameStation from (stationIn r))) (λ t. tt)
+        (λ t. either StoredTurnOk (not (eqb (item .seq) (r .next))) (λ t. tt)
+        (λ t. either StoredTurnOk (not (eqb (itemVerdict F s k p r item) accepted)) (λ t. ended-ok) (λ t. valid-ok (stored F s k p r item) r now)))
 
--- ---- halves of the whole state
+  -- ---- halves of the whole state
 
-abbrev HalvesOk : State → State → Type 0
-HalvesOk st st′ = (j : ℕ) → isKnown j ≡ true → HalfOk (planOf st j) (planOf st′ j)
+  abbrev HalvesOk : State → State → Type 0
+  HalvesOk st st′ = (j : ℕ) → isKnown j ≡ true → HalfOk (planOf st j) (planOf st′ j)
 
-halves-same : (st : State) → HalvesOk st st
-halves-same st j known = same-ok (planOf st j)
+  halves-same : (st : State) → HalvesOk st st
+  halves-same st j known = same-ok (planOf st j)
 
--- the plans after one of them became another
-put-plan : (st : State) → length (st .plans) ≡ length kinds → (k j : ℕ) (p : Plan) → isKnown k ≡ true → getD (set (st .plans) k p) j emptyPlan ≡ cond (eqb k j) p (planOf st j)
-put-plan st three k j p known = at-set (st .plans) k j p emptyPlan (rw three (known-below k known))
+  -- the plans after one of them became another
+  put-plan : (st : State) → length (st .plans) ≡ length kinds → (k j : ℕ) (p : Plan) → isKnown k ≡ true → getD (set (st .plans) k p) j emptyPlan ≡ cond (eqb k j) p (planOf st j)
+  put-plan st three k j p known = at-set (st .plans) k j p emptyPlan (rw three (known-below k known))
 
--- a clear keeps every half and number
-record Still (st st′ : State) : Type 0 where
-  half : (j : ℕ) → planOf st′ j .half ≡ planOf st j .half
-  number : (j : ℕ) → planOf st′ j .number ≡ planOf st j .number
+  -- a clear keeps every half and number
+  record Still (st st′ : State) : Type 0 where
+    half : (j : ℕ) → planOf st′ j .half ≡ planOf st j .half
+    number : (j : ℕ) → planOf st′ j .number ≡ planOf st j .number
 
-cleared-still : (st : State) → length (st .plans) ≡ length kinds → (ks : List ℕ) → every isKnown ks ≡ true → Still st (emptiedState st ks)
-unfolding renewedState
-cleared-still st three [] known = record { half = λ j. refl; number = λ j. refl }
-cleared-still st three (k ∷ ks) known =
-    let parts = both (isKnown k) (every isKnown ks) known in
-    let p = emptied (planOf st k) in
-    let rest = cleared-still (renewedState st k p) (length-set (st .plans) k p ∙ three) ks (parts .1) in
-    let at : (j : ℕ) → planOf (renewedState st k p) j ≡ cond (eqb k j) p (planOf st j) = λ j. put-plan st three k j p (parts .0) in
-    record {
-      half = λ j. rest .half j ∙ ap (λ (p : Plan). p .half) (at j) ∙ either (λ (p : Plan). p .half ≡ planOf st j .half) (eqb k j) (λ e. ap (λ (i : ℕ). planOf st i .half) (eqb-true k j e)) (λ e. refl);
-      number = λ j. rest .number j ∙ ap (λ (p : Plan). p .number) (at j) ∙ either (λ (p : Plan). p .number ≡ planOf st j .number) (eqb k j) (λ e. ap (λ (i : ℕ). planOf st i .number) (eqb-true k j e)) (λ e. refl);
-    }
-
-still-halves : (st st′ : State) → Still st st′ → HalvesOk st st′
-still-halves st st′ h j known = stays-ok (planOf st j) (planOf st′ j) (h .half j) (h .number j)
-
--- the halves after an effect
-put-halves :
-    (st st′ : State) → length (st .plans) ≡ length kinds → (k : ℕ) (p : Plan) → st′ .plans ≡ set (st .plans) k p → (isKnown k ≡ true) × HalfOk (planOf st k) p → HalvesOk st st′
-put-halves st st′ three k p plans ok j known =
-    subst (HalfOk (planOf st j)) (sym (ap (λ (l : List Plan). getD l j emptyPlan) plans ∙ put-plan st three k j p (ok .0)))
-    (either (HalfOk (planOf st j)) (eqb k j) (λ e. subst (λ (i : ℕ). HalfOk (planOf st i) p) (eqb-true k j e) (ok .1)) (λ e. same-ok (planOf st j)))
-
-effect-halves : (st : State) → length (st .plans) ≡ length kinds → (k : ℕ) (e : Effect) → EffectOk k (planOf st k) e → HalvesOk st (applied st k e)
-unfolding renewedState
-effect-halves st three k Nothing ok = halves-same st
-effect-halves st three k (Turns p) ok = put-halves st (turnedState st k p) three k p refl ok
-effect-halves st three k (Renews p) ok = put-halves st (renewedState st k p) three k p refl ok
-effect-halves st three k EmptiesAll ok = still-halves st (emptiedState st kinds) (cleared-still st three kinds refl)
-effect-halves st three k (Chooses seq) ok = halves-same st
-
--- ---- the store beside the spare bytes
-
-record Beside (s : Bytes) (free : ℕ → Bool) (s′ : Bytes) : Type 0 where
-  bytes : (i : ℕ) → free i ≡ false → getD s′ i 0 ≡ getD s i 0
-  long : length s′ ≡ length s
-
-beside-same : (s : Bytes) (free : ℕ → Bool) → Beside s free s
-beside-same s free = record { bytes = λ i e. refl; long = refl }
-
--- a byte outside the 38 from `at` is before or after them
-outside : (at i : ℕ) → (leb at i && ltb i (at + itemBytes)) ≡ false → (i < at) ⊎ (at + itemBytes ≤ i)
-outside at i e = go (leb at i) (ltb i (at + itemBytes)) refl refl
-  where
-    go : (t u : Bool) → leb at i ≡ t → ltb i (at + itemBytes) ≡ u → (i < at) ⊎ (at + itemBytes ≤ i)
-    go false u a b = inl (leb-false at i a)
-    go true false a b = inr (ltb-false i (at + itemBytes) b)
-    go true true a b = absurd (true≢false (sym (ap₂ _&&_ a b) ∙ e))
-
-module _ (st : State) (s : Bytes) (long : storeWords ≤ length s) (ranged : inRange (view st s) ≡ true) (k : ℕ) (known : isKnown k ≡ true) where
-  -- a write at the upload's next place
-  written : (r : Run) (item : Item) → planOf st k .upload ≡ Running r → Beside s (inPlace (not (planOf st k .half)) k (r .next)) (stored s k (planOf st k) r item)
-  written r item runs =
-      let half = not (planOf st k .half) in
-      let at = offsetOf half k (r .next) in
-      let small : k ≤ rally = leb-true k rally known in
-      let below : r .next < sizeOf k = next-below st s ranged k known r runs in
-      let whole = length-itemOf item in
-      let fits : at + length (itemOf item) ≤ length s = omega (arith, offset-within half k (r .next) small below) in
+  cleared-still : (st : State) → length (st .plans) ≡ length kinds → (ks : List ℕ) → every isKnown ks ≡ true → Still st (emptiedState st ks)
+  unfolding renewedState
+  cleared-still st three [] known = record { half = λ j. refl; number = λ j. refl }
+  cleared-still st three (k ∷ ks) known =
+      let parts = both (isKnown k) (every isKnown ks) known in
+      let p = emptied (planOf st k) in
+      let rest = cleared-still (renewedState st k p) (length-set (st .plans) k p ∙ three) ks (parts .1) in
+      let at : (j : ℕ) → planOf (renewedState st k p) j ≡ cond (eqb k j) p (planOf st j) = λ j. put-plan st three k j p (parts .0) in
       record {
-        bytes = λ i e.
-            ⊎-elim (λ (lower : i < at). getD-put-before s at (itemOf item) fits i lower) (λ (upper : at + itemBytes ≤ i). getD-put-after s at (itemOf item) fits i (omega arith))
-            (outside at i e);
-        long = length-stays s long (itemOf item) whole half k (r .next) small below;
+        half = λ j. rest .half j ∙ ap (λ (p : Plan). p .half) (at j) ∙ either (λ (p : Plan). p .half ≡ planOf st j .half) (eqb k j) (λ e. ap (λ (i : ℕ). planOf st i .half) (eqb-true k j e)) (λ e. refl);
+        number = λ j. rest .number j ∙ ap (λ (p : Plan). p .number) (at j) ∙ either (λ (p : Plan). p .number ≡ planOf st j .number) (eqb k j) (λ e. ap (λ (i : ℕ). planOf st i .number) (eqb-true k j e)) (λ e. refl);
       }
 
-  -- by the upload's own station, with the number expected
-  own-written :
-      (r : Run) (from : Station) (item : Item) → planOf st k .upload ≡ Running r → sameStation from (stationIn r) ≡ true → eqb (item .seq) (r .next) ≡ true
-      → Beside s (spareIn (planOf st k) k (Running r) from (item .seq)) (stored s k (planOf st k) r item)
-  unfolding spareIn
-  own-written r from item runs own turn =
-      let after = written r item runs in
-      record { bytes = λ i e. after .bytes i (rw (own, turn) at e); long = after .long }
+  still-halves : (st st′ : State) → Still st st′ → HalvesOk st st′
+  still-halves st st′ h j known = stays-ok (planOf st j) (planOf st′ j) (h .half j) (h .number j)
 
-  item-beside :
-      (u : Upload) → planOf st k .upload ≡ u → (from : Station) (now : ℕ) (item : Item)
-      → Beside s (spareIn (planOf st k) k u from (item .seq)) (itemTurned s k u (planOf st k) from now item .store)
-  unfolding itemTurned validItemTurned
-  item-beside Idle e from now item = beside-same s (spareIn (planOf st k) k Idle from (item .seq))
-  item-beside (Running r) e from now item =
-      let free = spareIn (planOf st k) k (Running r) from (item .seq) in
-      let p = planOf st k in
-      let s′ = stored s k p r item in
-      either Left (not (sameStation from (stationIn r))) (λ t. beside-same s free)
-      (λ own. either Left (not (eqb (item .seq) (r .next))) (λ t. beside-same s free)
-      (λ turn. let after = own-written r from item e (not-false (sameStation from (stationIn r)) own) (not-false (eqb (item .seq) (r .next)) turn) in
-      either Left (not (eqb (itemVerdict s k p r item) accepted)) (λ t. beside-same s free)
-      (λ t. either Left (not (eqb (r .next + 1) (r .count))) (λ t. after)
-      (λ t. either Left (wholeOk k (itemsIn s′ (not (p .half)) k (r .count))) (λ t. after) (λ t. after)))))
+  -- the halves after an effect
+  put-halves :
+      (st st′ : State) → length (st .plans) ≡ length kinds → (k : ℕ) (p : Plan) → st′ .plans ≡ set (st .plans) k p → (isKnown k ≡ true) × HalfOk (planOf st k) p → HalvesOk st st′
+  put-halves st st′ three k p plans ok j known =
+      subst (HalfOk (planOf st j)) (sym (ap (λ (l : List Plan). getD l j emptyPlan) plans ∙ put-plan st three k j p (ok .0)))
+      (either (HalfOk (planOf st j)) (eqb k j) (λ e. subst (λ (i : ℕ). HalfOk (planOf st i) p) (eqb-true k j e) (ok .1)) (λ e. same-ok (planOf st j)))
+
+  effect-halves : (st : State) → length (st .plans) ≡ length kinds → (k : ℕ) (e : Effect) → EffectOk k (planOf st k) e → HalvesOk st (applied st k e)
+  unfolding renewedState
+  effect-halves st three k Nothing ok = halves-same st
+  effect-halves st three k (Turns p) ok = put-halves st (turnedState st k p) three k p refl ok
+  effect-halves st three k (Renews p) ok = put-halves st (renewedState st k p) three k p refl ok
+  effect-halves st three k EmptiesAll ok = still-halves st (emptiedState st kinds) (cleared-still st three kinds refl)
+  effect-halves st three k (Chooses seq) ok = halves-same st
+
+  -- ---- the store beside the spare places
+
+  record Beside (s : Store) (free : ℕ → Bool) (s′ : Store) : Type 0 where
+    numbers : (i : ℕ) → free i ≡ false → getD s′ i 0 ≡ getD s i 0
+    long : length s′ ≡ length s
+
+  beside-same : (s : Store) (free : ℕ → Bool) → Beside s free s
+  beside-same s free = record { numbers = λ i e. refl; long = refl }
+
+  -- a number outside an item's from `at` is before or after them
+  outside : (at i : ℕ) → (leb at i && ltb i (at + F .width)) ≡ false → (i < at) ⊎ (at + F .width ≤ i)
+  outside at i e = go (leb at i) (ltb i (at + F .width)) refl refl
     where
-      Left : TurnAndStore → Type 0
-      Left t = Beside s (spareIn (planOf st k) k (Running r) from (item .seq)) (t .store)
+      go : (t u : Bool) → leb at i ≡ t → ltb i (at + F .width) ≡ u → (i < at) ⊎ (at + F .width ≤ i)
+      go false u a b = inl (leb-false at i a)
+      go true false a b = inr (ltb-false i (at + F .width) b)
+      go true true a b = absurd (true≢false (sym (ap₂ _&&_ a b) ∙ e))
 
--- ---- every message
+  module _ (st : State) (s : Store) (long : least F ≤ length s) (ranged : inRange (viewIn F st s) ≡ true) (k : ℕ) (known : isKnown k ≡ true) where
+    -- a write at the upload's next place
+    written : (r : Run) (item : Item) → planOf st k .upload ≡ Running r → Beside s (inPlace F (not (planOf st k .half)) k (r .next)) (stored F s k (planOf st k) r item)
+    written r item runs =
+        let half = not (planOf st k .half) in
+        let at = offsetOf F half k (r .next) in
+        let small : k ≤ rally = leb-true k rally known in
+        let below : r .next < sizeOf k = next-below F lawful st s ranged k known r runs in
+        let whole = lawful .wide item in
+        let fits : at + length (F .keeps item) ≤ length s = omega (arith, offset-within F lawful half k (r .next) small below) in
+        record {
+          numbers = λ i e.
+              ⊎-elim (λ (lower : i < at). getD-put-before s at (F .keeps item) fits i lower) (λ (upper : at + F .width ≤ i). getD-put-after s at (F .keeps item) fits i (omega arith))
+              (outside at i e);
+          long = length-stays F lawful s long (F .keeps item) whole half k (r .next) small below;
+        }
 
-module _ (st : State) (s : Bytes) (three : length (st .plans) ≡ length kinds) (long : storeWords ≤ length s) (ranged : inRange (view st s) ≡ true) (from : Station) (now k : ℕ) where
-  abbrev DoneOk : Done → Type 0
-  DoneOk d = EffectOk k (planOf st k) (d .effect)
+    -- by the upload's own station, with the number expected
+    own-written :
+        (r : Run) (from : Station) (item : Item) → planOf st k .upload ≡ Running r → sameStation from (stationIn r) ≡ true → eqb (item .seq) (r .next) ≡ true
+        → Beside s (spareIn F (planOf st k) k (Running r) from (item .seq)) (stored F s k (planOf st k) r item)
+    unfolding spareIn
+    own-written r from item runs own turn =
+        let after = written r item runs in
+        record { numbers = λ i e. after .numbers i (rw (own, turn) at e); long = after .long }
 
-  ack-effect : (result : ℕ) → EffectOk k (planOf st k) (ackTurned (planOf st k) from result .effect)
-  ack-effect result = go (isKnown k) refl
-    where
-      go : (t : Bool) → isKnown k ≡ t → EffectOk k (planOf st k) (ackTurned (planOf st k) from result .effect)
-      go true known = ack-ok k known (planOf st k) from result
-      go false e = subst (λ (t : Turned). EffectOk k (planOf st k) (t .effect)) (sym (unknown-turn st s three from k result e)) tt
+    item-beside :
+        (u : Upload) → planOf st k .upload ≡ u → (from : Station) (now : ℕ) (item : Item)
+        → Beside s (spareIn F (planOf st k) k u from (item .seq)) (itemTurned F s k u (planOf st k) from now item .store)
+    unfolding itemTurned validItemTurned
+    item-beside Idle e from now item = beside-same s (spareIn F (planOf st k) k Idle from (item .seq))
+    item-beside (Running r) e from now item =
+        let free = spareIn F (planOf st k) k (Running r) from (item .seq) in
+        let p = planOf st k in
+        let s′ = stored F s k p r item in
+        either Left (not (sameStation from (stationIn r))) (λ t. beside-same s free)
+        (λ own. either Left (not (eqb (item .seq) (r .next))) (λ t. beside-same s free)
+        (λ turn. let after = own-written r from item e (not-false (sameStation from (stationIn r)) own) (not-false (eqb (item .seq) (r .next)) turn) in
+        either Left (not (eqb (itemVerdict F s k p r item) accepted)) (λ t. beside-same s free)
+        (λ t. either Left (not (eqb (r .next + 1) (r .count))) (λ t. after)
+        (λ t. either Left (wholeOk k (itemsIn F s′ (not (p .half)) k (r .count))) (λ t. after) (λ t. after)))))
+      where
+        Left : TurnAndStore → Type 0
+        Left t = Beside s (spareIn F (planOf st k) k (Running r) from (item .seq)) (t .store)
 
-  clear-effect : kindOk k clears ≡ true → EffectOk k (planOf st k) (clearEffect (st .plans) k)
-  unfolding kindOk
-  clear-effect ok = go (eqb k everyKind) refl
-    where
-      go : (t : Bool) → eqb k everyKind ≡ t → EffectOk k (planOf st k) (cond t EmptiesAll (Renews (emptied (planOf st k))))
-      go true e = tt
-      go false e = emptied-ok k (rw (e, or-false) at ok) (planOf st k)
+  -- ---- every message
 
-  known-effect : (r : Request) → kindOk k r ≡ true → DoneOk (knownDone (st .plans) (st .current) s from now k r)
-  unfolding knownDone planDone kindOk chooseEffect clearDone
-  known-effect (chooses seq) ok = either (EffectOk k (planOf st k)) (ltb seq (planOf st flight .len)) (λ t. tt) (λ t. tt)
-  known-effect asksList ok = tt
-  known-effect (announces n) ok = count-ok k ok (planOf st k) from now n (sizeOf k)
-  known-effect clears ok = either DoneOk (othersAmong (st .plans) from (covered k)) (λ t. tt) (λ t. clear-effect ok)
-  known-effect (acknowledges result) ok = ack-effect result
-  known-effect (asksItem seq) ok = tt
-  known-effect (brings item) ok = item-ok k ok (planOf st k) s (planOf st k .upload) from now item
+  module _ (st : State) (s : Store) (three : length (st .plans) ≡ length kinds) (long : least F ≤ length s) (ranged : inRange (viewIn F st s) ≡ true) (from : Station) (now k : ℕ) where
+    abbrev DoneOk : Done → Type 0
+    DoneOk d = EffectOk k (planOf st k) (d .effect)
 
-  pub message-effect : (r : Request) → DoneOk (messageDone (st .plans) (st .current) s from now k r)
-  unfolding messageDone
-  message-effect r = either DoneOk (kindOk k r) (known-effect r) (λ t. tt)
+    ack-effect : (result : ℕ) → EffectOk k (planOf st k) (ackTurned (planOf st k) from result .effect)
+    ack-effect result = go (isKnown k) refl
+      where
+        go : (t : Bool) → isKnown k ≡ t → EffectOk k (planOf st k) (ackTurned (planOf st k) from result .effect)
+        go true known = ack-ok k known (planOf st k) from result
+        go false e = subst (λ (t : Turned). EffectOk k (planOf st k) (t .effect)) (sym (unknown-turn F lawful st s three from k result e)) tt
 
-  message-halves : (r : Request) → HalvesOk st (afterMessage st s from now k r .state)
-  message-halves r = effect-halves st three k (messageDone (st .plans) (st .current) s from now k r .effect) (message-effect r)
+    clear-effect : kindOk k clears ≡ true → EffectOk k (planOf st k) (clearEffect (st .plans) k)
+    unfolding kindOk
+    clear-effect ok = go (eqb k everyKind) refl
+      where
+        go : (t : Bool) → eqb k everyKind ≡ t → EffectOk k (planOf st k) (cond t EmptiesAll (Renews (emptied (planOf st k))))
+        go true e = tt
+        go false e = emptied-ok k (rw (e, or-false) at ok) (planOf st k)
 
-  abbrev Left : Request → Done → Type 0
-  Left r d = Beside s (spareAt st (request from now k r)) (d .store)
+    known-effect : (r : Request) → kindOk k r ≡ true → DoneOk (knownDone F (st .plans) (st .current) s from now k r)
+    unfolding knownDone planDone kindOk chooseEffect clearDone
+    known-effect (chooses seq) ok = either (EffectOk k (planOf st k)) (ltb seq (planOf st flight .len)) (λ t. tt) (λ t. tt)
+    known-effect asksList ok = tt
+    known-effect (announces n) ok = count-ok k ok (planOf st k) from now n (sizeOf k)
+    known-effect clears ok = either DoneOk (othersAmong (st .plans) from (covered k)) (λ t. tt) (λ t. clear-effect ok)
+    known-effect (acknowledges result) ok = ack-effect result
+    known-effect (asksItem seq) ok = tt
+    known-effect (brings item) ok = item-ok k ok (planOf st k) s (planOf st k .upload) from now item
 
-  known-beside : (r : Request) → kindOk k r ≡ true → Left r (knownDone (st .plans) (st .current) s from now k r)
-  unfolding knownDone planDone kindOk clearDone spareAt
-  known-beside (chooses seq) ok = beside-same s (λ i. false)
-  known-beside asksList ok = beside-same s (λ i. false)
-  known-beside (announces n) ok = beside-same s (λ i. false)
-  known-beside clears ok = either (Left clears) (othersAmong (st .plans) from (covered k)) (λ t. beside-same s (λ i. false)) (λ t. beside-same s (λ i. false))
-  known-beside (acknowledges result) ok = beside-same s (λ i. false)
-  known-beside (asksItem seq) ok = beside-same s (λ i. false)
-  known-beside (brings item) ok =
-      let after = item-beside st s long ranged k ok (planOf st k .upload) refl from now item in
-      record { bytes = λ i e. after .bytes i (rw ok at e); long = after .long }
+    pub message-effect : (r : Request) → DoneOk (messageDone F (st .plans) (st .current) s from now k r)
+    unfolding messageDone
+    message-effect r = either DoneOk (kindOk k r) (known-effect r) (λ t. tt)
 
-  message-beside : (r : Request) → Left r (messageDone (st .plans) (st .current) s from now k r)
-  unfolding messageDone
-  message-beside r = either (Left r) (kindOk k r) (known-beside r) (λ t. beside-same s (spareAt st (request from now k r)))
+    message-halves : (r : Request) → HalvesOk st (afterMessage F st s from now k r .state)
+    message-halves r = effect-halves st three k (messageDone F (st .plans) (st .current) s from now k r .effect) (message-effect r)
 
--- ---- what every call keeps of the promise
+    abbrev Left : Request → Done → Type 0
+    Left r d = Beside s (spareAt F st (request from now k r)) (d .store)
 
--- the code's step d of call c
-pub record Steps (c : Call) (st : State) (s : Bytes) (d : After) : Type 0 where
-  pub model : view (d .state) (d .store) ≡ step (view st s) c .model
-  pub answer : d .answer ≡ step (view st s) c .answer
-  pub halves :
-      (k : ℕ) → k ≤ rally
-      → halfOf (d .state) k ≡ cond (eqb (numberOf (step (view st s) c .model) k) (numberOf (view st s) k)) (halfOf st k) (not (halfOf st k))
-  pub unchanged : isRefused (step (view st s) c .answer) ≡ true → (d .state ≡ st) × (d .store ≡ s)
-  pub beside : (i : ℕ) → spare st c i ≡ false → getD (d .store) i 0 ≡ getD s i 0
-  pub long : length (d .store) ≡ length s
+    known-beside : (r : Request) → kindOk k r ≡ true → Left r (knownDone F (st .plans) (st .current) s from now k r)
+    unfolding knownDone planDone kindOk clearDone spareAt
+    known-beside (chooses seq) ok = beside-same s (λ i. false)
+    known-beside asksList ok = beside-same s (λ i. false)
+    known-beside (announces n) ok = beside-same s (λ i. false)
+    known-beside clears ok = either (Left clears) (othersAmong (st .plans) from (covered k)) (λ t. beside-same s (λ i. false)) (λ t. beside-same s (λ i. false))
+    known-beside (acknowledges result) ok = beside-same s (λ i. false)
+    known-beside (asksItem seq) ok = beside-same s (λ i. false)
+    known-beside (brings item) ok =
+        let after = item-beside st s long ranged k ok (planOf st k .upload) refl from now item in
+        record { numbers = λ i e. after .numbers i (rw ok at e); long = after .long }
 
--- the halves, by the numbers that the models show
-shown-halves :
-    (st st′ : State) (s s′ : Bytes) (m : Model) → HalvesOk st st′ → view st′ s′ ≡ m → (k : ℕ) → k ≤ rally
-    → halfOf st′ k ≡ cond (eqb (numberOf m k) (numberOf (view st s) k)) (halfOf st k) (not (halfOf st k))
-shown-halves st st′ s s′ m ok e k small =
-    let known = le-leb k rally small in
-    let before = ap (λ (p : model.Plan). p .number) (plan-shown st s k known) in
-    let after = ap (λ (x : Model). numberOf x k) (sym e) ∙ ap (λ (p : model.Plan). p .number) (plan-shown st′ s′ k known) in
-    ok k known ∙ sym (ap₂ (λ (a b : ℕ). cond (eqb a b) (halfOf st k) (not (halfOf st k))) after before)
+    message-beside : (r : Request) → Left r (messageDone F (st .plans) (st .current) s from now k r)
+    unfolding messageDone
+    message-beside r = either (Left r) (kindOk k r) (known-beside r) (λ t. beside-same s (spareAt F st (request from now k r)))
 
--- a refused call
-pub refused-steps : (c : Call) (st : State) (s : Bytes) (outcome : ℕ) → heard (inRange (view st s)) c ≡ refuses outcome → Steps c st s (gives st s (refused outcome))
-unfolding step act
-refused-steps c st s outcome e =
-    let stepped : step (view st s) c ≡ record { model = view st s; answer = refused outcome } = ap (act (view st s)) e in
-    record {
-      model = sym (ap (λ (x : Stepped). x .model) stepped);
-      answer = sym (ap (λ (x : Stepped). x .answer) stepped);
-      halves = shown-halves st st s s (step (view st s) c .model) (halves-same st) (sym (ap (λ (x : Stepped). x .model) stepped));
-      unchanged = λ t. (refl, refl);
-      beside = λ i t. refl;
-      long = refl;
-    }
+  -- ---- what every call keeps of the promise
 
--- a step that is the rules' of what is heard, and is no refusal
-heard-steps :
-    (c : Call) (st : State) (s : Bytes) (h : Heard) (d : After) → inRange (view st s) ≡ true → heard (inRange (view st s)) c ≡ h → Agree d (act (view st s) h)
-    → HalvesOk st (d .state) → isRefused (act (view st s) h .answer) ≡ false → Beside s (spareAt st h) (d .store) → Steps c st s d
-unfolding step
-heard-steps c st s h d ranged e agree halves answered beside =
-    let stepped : act (view st s) h ≡ step (view st s) c = ap (act (view st s)) (sym e) in
-    let same : heard true c ≡ h = ap (λ (t : Bool). heard t c) (sym ranged) ∙ e in
-    record {
-      model = agree .model ∙ ap (λ (x : Stepped). x .model) stepped;
-      answer = agree .answer ∙ ap (λ (x : Stepped). x .answer) stepped;
-      halves = shown-halves st (d .state) s (d .store) (step (view st s) c .model) halves (agree .model ∙ ap (λ (x : Stepped). x .model) stepped);
-      unchanged = λ t. absurd (true≢false (sym t ∙ sym (ap (λ (x : Stepped). isRefused (x .answer)) stepped) ∙ answered));
-      beside = λ i t. beside .bytes i (subst (λ (g : Heard). spareAt st g i ≡ false) same t);
-      long = beside .long;
-    }
+  -- the code's step d of call c
+  pub record Steps (c : Call) (st : State) (s : Store) (d : After) : Type 0 where
+    pub model : viewIn F (d .state) (d .store) ≡ step (viewIn F st s) c .model
+    pub answer : d .answer ≡ step (viewIn F st s) c .answer
+    pub halves :
+        (k : ℕ) → k ≤ rally
+        → halfOf (d .state) k ≡ cond (eqb (numberOf (step (viewIn F st s) c .model) k) (numberOf (viewIn F st s) k)) (halfOf st k) (not (halfOf st k))
+    pub unchanged : isRefused (step (viewIn F st s) c .answer) ≡ true → (d .state ≡ st) × (d .store ≡ s)
+    pub beside : (i : ℕ) → spare F st c i ≡ false → getD (d .store) i 0 ≡ getD s i 0
+    pub long : length (d .store) ≡ length s
 
-module _ (c : Call) (st : State) (s : Bytes) (three : length (st .plans) ≡ length kinds) (ranged : inRange (view st s) ≡ true) where
-  -- a message that is not refused
-  pub message-steps :
-      storeWords ≤ length s → (from : Station) (now k : ℕ) (r : Request) → heard (inRange (view st s)) c ≡ request from now k r
-      → Steps c st s (afterMessage st s from now k r)
-  unfolding act
-  message-steps long from now k r e =
-      heard-steps c st s (request from now k r) (afterMessage st s from now k r) ranged e (message-agrees st s three long ranged from now k r)
-      (message-halves st s three long ranged from now k r) (message-answered (view st s) from now k r) (message-beside st s three long ranged from now k r)
+  -- the halves, by the numbers that the models show
+  shown-halves :
+      (st st′ : State) (s s′ : Store) (m : Model) → HalvesOk st st′ → viewIn F st′ s′ ≡ m → (k : ℕ) → k ≤ rally
+      → halfOf st′ k ≡ cond (eqb (numberOf m k) (numberOf (viewIn F st s) k)) (halfOf st k) (not (halfOf st k))
+  shown-halves st st′ s s′ m ok e k small =
+      let known = le-leb k rally small in
+      let before = ap (λ (p : model.Plan). p .number) (plan-shown F st s k known) in
+      let after = ap (λ (x : Model). numberOf x k) (sym e) ∙ ap (λ (p : model.Plan). p .number) (plan-shown F st′ s′ k known) in
+      ok k known ∙ sym (ap₂ (λ (a b : ℕ). cond (eqb a b) (halfOf st k) (not (halfOf st k))) after before)
 
-  -- a timer call that is not refused
-  pub timer-steps : (now k : ℕ) → isKnown k ≡ true → heard (inRange (view st s)) c ≡ expiry now k → Steps c st s (afterTimer st s now k)
-  unfolding act timerDone spareAt
-  timer-steps now k known e =
-      heard-steps c st s (expiry now k) (afterTimer st s now k) ranged e (timer-agrees st s three k known now)
-      (effect-halves st three k (timerTurned (planOf st k .upload) (planOf st k) now .effect) (timer-ok k known (planOf st k) (planOf st k .upload) now))
-      (timer-answered (view st s) (model.uploadOf (view st s) k) now k) (beside-same s (λ i. false))
+  -- a refused call
+  pub refused-steps : (c : Call) (st : State) (s : Store) (outcome : ℕ) → heard (inRange (viewIn F st s)) c ≡ refuses outcome → Steps c st s (gives st s (refused outcome))
+  unfolding step act
+  refused-steps c st s outcome e =
+      let stepped : step (viewIn F st s) c ≡ record { model = viewIn F st s; answer = refused outcome } = ap (act (viewIn F st s)) e in
+      record {
+        model = sym (ap (λ (x : Stepped). x .model) stepped);
+        answer = sym (ap (λ (x : Stepped). x .answer) stepped);
+        halves = shown-halves st st s s (step (viewIn F st s) c .model) (halves-same st) (sym (ap (λ (x : Stepped). x .model) stepped));
+        unchanged = λ t. (refl, refl);
+        beside = λ i t. refl;
+        long = refl;
+      }
 
-  -- a "command done" call that is not refused, by the next command's own promise
-  pub done-steps :
-      (st′ : State) → view st′ s ≡ record { shown = advance (view st s .shown); uploads = view st s .uploads } → st′ .plans ≡ st .plans
-      → heard (inRange (view st s)) c ≡ commandDone → Steps c st s (gives st′ s (orders (answerOf (next (view st s .shown)))))
-  unfolding act spareAt
-  done-steps st′ shows plans e =
-      heard-steps c st s commandDone (gives st′ s (orders (answerOf (next (view st s .shown))))) ranged e (record { model = shows; answer = refl })
-      (λ j known. subst (HalfOk (planOf st j)) (ap (λ (l : List Plan). getD l j emptyPlan) (sym plans)) (same-ok (planOf st j))) refl (beside-same s (λ i. false))
+  -- a step that is the rules' of what is heard, and is no refusal
+  heard-steps :
+      (c : Call) (st : State) (s : Store) (h : Heard) (d : After) → inRange (viewIn F st s) ≡ true → heard (inRange (viewIn F st s)) c ≡ h → Agree F d (act (viewIn F st s) h)
+      → HalvesOk st (d .state) → isRefused (act (viewIn F st s) h .answer) ≡ false → Beside s (spareAt F st h) (d .store) → Steps c st s d
+  unfolding step
+  heard-steps c st s h d ranged e agree halves answered beside =
+      let stepped : act (viewIn F st s) h ≡ step (viewIn F st s) c = ap (act (viewIn F st s)) (sym e) in
+      let same : heard true c ≡ h = ap (λ (t : Bool). heard t c) (sym ranged) ∙ e in
+      record {
+        model = agree .model ∙ ap (λ (x : Stepped). x .model) stepped;
+        answer = agree .answer ∙ ap (λ (x : Stepped). x .answer) stepped;
+        halves = shown-halves st (d .state) s (d .store) (step (viewIn F st s) c .model) halves (agree .model ∙ ap (λ (x : Stepped). x .model) stepped);
+        unchanged = λ t. absurd (true≢false (sym t ∙ sym (ap (λ (x : Stepped). isRefused (x .answer)) stepped) ∙ answered));
+        beside = λ i t. beside .numbers i (subst (λ (g : Heard). spareAt F st g i ≡ false) same t);
+        long = beside .long;
+      }
+
+  module _ (c : Call) (st : State) (s : Store) (three : length (st .plans) ≡ length kinds) (ranged : inRange (viewIn F st s) ≡ true) where
+    -- a message that is not refused
+    pub message-steps :
+        least F ≤ length s → (from : Station) (now k : ℕ) (r : Request) → heard (inRange (viewIn F st s)) c ≡ request from now k r
+        → Steps c st s (afterMessage F st s from now k r)
+    unfolding act
+    message-steps long from now k r e =
+        heard-steps c st s (request from now k r) (afterMessage F st s from now k r) ranged e (message-agrees F lawful st s three long ranged from now k r (request-kind (inRange (viewIn F st s)) c e))
+        (message-halves st s three long ranged from now k r) (message-answered (viewIn F st s) from now k r) (message-beside st s three long ranged from now k r)
+
+    -- a timer call that is not refused
+    pub timer-steps : (now k : ℕ) → isKnown k ≡ true → heard (inRange (viewIn F st s)) c ≡ expiry now k → Steps c st s (afterTimer st s now k)
+    unfolding act timerDone spareAt
+    timer-steps now k known e =
+        heard-steps c st s (expiry now k) (afterTimer st s now k) ranged e (timer-agrees F st s three k known now)
+        (effect-halves st three k (timerTurned (planOf st k .upload) (planOf st k) now .effect) (timer-ok k known (planOf st k) (planOf st k .upload) now))
+        (timer-answered (viewIn F st s) (model.uploadOf (viewIn F st s) k) now k) (beside-same s (λ i. false))
+
+    -- a "command done" call that is not refused, by the next command's own promise
+    pub done-steps :
+        (st′ : State) → viewIn F st′ s ≡ record { shown = advance (viewIn F st s .shown); uploads = viewIn F st s .uploads } → st′ .plans ≡ st .plans
+        → heard (inRange (viewIn F st s)) c ≡ commandDone → Steps c st s (gives st′ s (orders (answerOf (next (viewIn F st s .shown)))))
+    unfolding act spareAt
+    done-steps st′ shows plans e =
+        heard-steps c st s commandDone (gives st′ s (orders (answerOf (next (viewIn F st s .shown))))) ranged e (record { model = shows; answer = refl })
+        (λ j known. subst (HalfOk (planOf st j)) (ap (λ (l : List Plan). getD l j emptyPlan) (sym plans)) (same-ok (planOf st j))) refl (beside-same s (λ i. false))

@@ -6,7 +6,6 @@ use mathlib.Core.Bool.{Bool, true, not, _&&_}
 use lib.ListN.{length, set}
 use lib.Dec.{eqb, ltb}
 use Rattle.rules.specs.Limits.{kinds, sizeOf, maxRepeats, expiryMs, accepted, noSpace, denied, cancelled}
-use Rattle.rules.specs.Payload.{Bytes}
 use Rattle.rules.specs.Messages.{Station}
 use Rattle.rules.specs.Model as model
 use Rattle.rules.specs.Model.{idle, running, elapsed, isOthers, isOwn, withPlan}
@@ -18,8 +17,8 @@ use Rattle.plan.specs.declared.Plan.{Plan}
 use Rattle.plan.specs.declared.Run.{Run}
 use Rattle.plan.specs.declared.Upload.{Upload}
 use Rattle.plan.specs.declared.Upload.the-variants.{Idle, Running}
-use Rattle.places.specs.Places.{itemsIn, length-items}
-use Rattle.plan.specs.View.{planOf, runIn, uploadIn, view}
+use Rattle.places.specs.Forms.{Store, Form, itemsIn, length-items}
+use Rattle.plan.specs.View.{planOf, runIn, uploadIn, viewIn}
 use Rattle.upload.specs.declared.Say.{Say}
 use Rattle.upload.specs.declared.Say.the-variants.{Silent, Ack, Ask}
 use Rattle.upload.specs.declared.Turned.{Turned}
@@ -29,92 +28,93 @@ use Rattle.protocol.specs.Doing.{timerDone}
 use Rattle.refine.specs.After.{After, afterTurn, afterTimer}
 use Rattle.refine.specs.Views.{plan-shown, upload-shown, view-upload, view-renewed}
 
--- the code's step shows the rules' model, and gives the rules' answer
-pub record Agree (d : After) (m : Stepped) : Type 0 where
-  pub model : view (d .state) (d .store) ≡ m .model
-  pub answer : d .answer ≡ m .answer
+module _ (F : Form) where
+  -- the code's step shows the rules' model, and gives the rules' answer
+  pub record Agree (d : After) (m : Stepped) : Type 0 where
+    pub model : viewIn F (d .state) (d .store) ≡ m .model
+    pub answer : d .answer ≡ m .answer
 
--- whose an upload is, as shown
-pub others-shown : (from : Station) (s : Bytes) (half : Bool) (k : ℕ) (u : Upload) → isOthers from (uploadIn s half k u) ≡ othersUpload from u
-unfolding isOthers othersUpload uploadIn
-others-shown from s half k Idle = refl
-others-shown from s half k (Running r) = refl
+  -- whose an upload is, as shown
+  pub others-shown : (from : Station) (s : Store) (half : Bool) (k : ℕ) (u : Upload) → isOthers from (uploadIn F s half k u) ≡ othersUpload from u
+  unfolding isOthers othersUpload uploadIn
+  others-shown from s half k Idle = refl
+  others-shown from s half k (Running r) = refl
 
-own-shown : (from : Station) (s : Bytes) (half : Bool) (k : ℕ) (u : Upload) → isOwn from (uploadIn s half k u) ≡ ownUpload from u
-unfolding isOwn ownUpload uploadIn
-own-shown from s half k Idle = refl
-own-shown from s half k (Running r) = refl
+  own-shown : (from : Station) (s : Store) (half : Bool) (k : ℕ) (u : Upload) → isOwn from (uploadIn F s half k u) ≡ ownUpload from u
+  unfolding isOwn ownUpload uploadIn
+  own-shown from s half k Idle = refl
+  own-shown from s half k (Running r) = refl
 
-module _ (st : State) (s : Bytes) (three : length (st .plans) ≡ length kinds) (k : ℕ) (known : isKnown k ≡ true) (to : Station) where
-  abbrev pub Agrees : Turned → Stepped → Type 0
-  Agrees t m = Agree (afterTurn st s k to t) m
+  module _ (st : State) (s : Store) (three : length (st .plans) ≡ length kinds) (k : ℕ) (known : isKnown k ≡ true) (to : Station) where
+    abbrev pub Agrees : Turned → Stepped → Type 0
+    Agrees t m = Agree (afterTurn st s k to t) m
 
-  -- nothing changes
-  pub kept : (say : Say) (a : Answer) → answerOf say to k ≡ a → Agrees (keeps say) (record { model = view st s; answer = a })
-  kept say a e = record { model = refl; answer = e }
+    -- nothing changes
+    pub kept : (say : Say) (a : Answer) → answerOf say to k ≡ a → Agrees (keeps say) (record { model = viewIn F st s; answer = a })
+    kept say a e = record { model = refl; answer = e }
 
-  -- the upload ends
-  pub ends : (say : Say) (a : Answer) → answerOf say to k ≡ a → Agrees (moves (ended (planOf st k)) say) (record { model = record { shown = view st s .shown; uploads = set (view st s .uploads) k idle }; answer = a })
-  unfolding uploadIn
-  ends say a e = record { model = view-upload st s three k Idle known; answer = e }
+    -- the upload ends
+    pub ends : (say : Say) (a : Answer) → answerOf say to k ≡ a → Agrees (moves (ended (planOf st k)) say) (record { model = record { shown = viewIn F st s .shown; uploads = set (viewIn F st s .uploads) k idle }; answer = a })
+    unfolding uploadIn
+    ends say a e = record { model = view-upload F st s three k Idle known; answer = e }
 
-  -- an upload runs on
-  pub runs :
-      (r : Run) (say : Say) (a : Answer) → answerOf say to k ≡ a
-      → Agrees (moves (withUpload (planOf st k) (Running r)) say)
-      (record { model = record { shown = view st s .shown; uploads = set (view st s .uploads) k (running (runIn s (not (planOf st k .half)) k r)) }; answer = a })
-  unfolding uploadIn
-  runs r say a e = record { model = view-upload st s three k (Running r) known; answer = e }
+    -- an upload runs on
+    pub runs :
+        (r : Run) (say : Say) (a : Answer) → answerOf say to k ≡ a
+        → Agrees (moves (withUpload (planOf st k) (Running r)) say)
+        (record { model = record { shown = viewIn F st s .shown; uploads = set (viewIn F st s .uploads) k (running (runIn F s (not (planOf st k .half)) k r)) }; answer = a })
+    unfolding uploadIn
+    runs r say a e = record { model = view-upload F st s three k (Running r) known; answer = e }
 
-  -- the plan becomes empty
-  pub empties :
-      (say : Say) (a : Answer) → answerOf say to k ≡ a
-      → Agrees (renews (emptied (planOf st k)) say)
-      (record { model = record { shown = model.empty (k ∷ []) (view st s .shown); uploads = set (view st s .uploads) k idle }; answer = a })
-  unfolding uploadIn itemsIn model.empty model.emptied
-  empties say a e =
-      record {
-        model =
-            view-renewed st s three k (emptied (planOf st k)) known
-            ∙ ap
-            (λ (n : ℕ). record { shown = withPlan k (record { items = []; number = n }) (view st s .shown); uploads = set (view st s .uploads) k idle })
-            (sym (ap (λ (q : model.Plan). q .number) (plan-shown st s k known)));
-        answer = e;
-      }
+    -- the plan becomes empty
+    pub empties :
+        (say : Say) (a : Answer) → answerOf say to k ≡ a
+        → Agrees (renews (emptied (planOf st k)) say)
+        (record { model = record { shown = model.empty (k ∷ []) (viewIn F st s .shown); uploads = set (viewIn F st s .uploads) k idle }; answer = a })
+    unfolding uploadIn itemsIn model.empty model.emptied
+    empties say a e =
+        record {
+          model =
+              view-renewed F st s three k (emptied (planOf st k)) known
+              ∙ ap
+              (λ (n : ℕ). record { shown = withPlan k (record { items = []; number = n }) (viewIn F st s .shown); uploads = set (viewIn F st s .uploads) k idle })
+              (sym (ap (λ (q : model.Plan). q .number) (plan-shown F st s k known)));
+          answer = e;
+        }
 
-  -- COUNT, from the station that is answered
-  pub count-agrees : (now n : ℕ) → Agrees (countTurned (planOf st k) to now n (sizeOf k)) (onCount (view st s) to now k n)
-  unfolding countTurned onCount itemsIn
-  count-agrees now n =
-      rw (upload-shown st s k known, others-shown to s (not (planOf st k .half)) k (planOf st k .upload))
-      (either₂ Agrees (othersUpload to (planOf st k .upload)) (λ t. kept (Ack denied 0) (acks to denied k) refl)
-      (λ t. either₂ Agrees (ltb (sizeOf k) n) (λ t. ends (Ack noSpace 0) (acks to noSpace k) refl)
-      (λ t. either₂ Agrees (eqb n 0) (λ t. empties (Ack accepted 0) (acks to accepted k) refl)
-      (λ t. runs (started to now n) (Ask 0) (requests to 0 k) refl))))
+    -- COUNT, from the station that is answered
+    pub count-agrees : (now n : ℕ) → Agrees (countTurned (planOf st k) to now n (sizeOf k)) (onCount (viewIn F st s) to now k n)
+    unfolding countTurned onCount itemsIn
+    count-agrees now n =
+        rw (upload-shown F st s k known, others-shown to s (not (planOf st k .half)) k (planOf st k .upload))
+        (either₂ Agrees (othersUpload to (planOf st k .upload)) (λ t. kept (Ack denied 0) (acks to denied k) refl)
+        (λ t. either₂ Agrees (ltb (sizeOf k) n) (λ t. ends (Ack noSpace 0) (acks to noSpace k) refl)
+        (λ t. either₂ Agrees (eqb n 0) (λ t. empties (Ack accepted 0) (acks to accepted k) refl)
+        (λ t. runs (started to now n) (Ask 0) (requests to 0 k) refl))))
 
-  -- ACK
-  pub ack-agrees : (result : ℕ) → Agrees (ackTurned (planOf st k) to result) (onAck (view st s) to k result)
-  unfolding ackTurned onAck
-  ack-agrees result =
-      rw (upload-shown st s k known, own-shown to s (not (planOf st k .half)) k (planOf st k .upload))
-      (either₂ Agrees (ownUpload to (planOf st k .upload) && not (eqb result accepted)) (λ t. ends Silent silent refl) (λ t. kept Silent silent refl))
+    -- ACK
+    pub ack-agrees : (result : ℕ) → Agrees (ackTurned (planOf st k) to result) (onAck (viewIn F st s) to k result)
+    unfolding ackTurned onAck
+    ack-agrees result =
+        rw (upload-shown F st s k known, own-shown to s (not (planOf st k .half)) k (planOf st k .upload))
+        (either₂ Agrees (ownUpload to (planOf st k .upload) && not (eqb result accepted)) (λ t. ends Silent silent refl) (λ t. kept Silent silent refl))
 
--- the timer: the reply goes to the upload's station
-timer-by :
-    (st : State) (s : Bytes) → length (st .plans) ≡ length kinds → (k : ℕ) → isKnown k ≡ true → (now : ℕ) (u : Upload)
-    → Agree (afterTurn st s k (stationOf u) (timerTurned u (planOf st k) now)) (onTimer (uploadIn s (not (planOf st k .half)) k u) (view st s) now k)
-unfolding timerTurned onTimer uploadIn
-timer-by st s three k known now Idle = kept st s three k known (stationOf Idle) Silent silent refl
-timer-by st s three k known now (Running r) =
-    let to = stationOf (Running r) in
-    let next = length-items s (not (planOf st k .half)) k (r .next) in
-    either₂ (Agrees st s three k known to) (ltb (elapsed now (r .started)) expiryMs) (λ t. kept st s three k known to Silent silent refl)
-    (λ t. either₂ (Agrees st s three k known to) (ltb (r .repeats) maxRepeats)
-    (λ t. runs st s three k known to (askedAgain r now) (Ask (r .next)) (requests to (length (itemsIn s (not (planOf st k .half)) k (r .next))) k) (ap (λ (n : ℕ). requests to n k) (sym next)))
-    (λ t. ends st s three k known to (Ack cancelled 0) (acks to cancelled k) refl))
+  -- the timer: the reply goes to the upload's station
+  timer-by :
+      (st : State) (s : Store) → length (st .plans) ≡ length kinds → (k : ℕ) → isKnown k ≡ true → (now : ℕ) (u : Upload)
+      → Agree (afterTurn st s k (stationOf u) (timerTurned u (planOf st k) now)) (onTimer (uploadIn F s (not (planOf st k .half)) k u) (viewIn F st s) now k)
+  unfolding timerTurned onTimer uploadIn
+  timer-by st s three k known now Idle = kept st s three k known (stationOf Idle) Silent silent refl
+  timer-by st s three k known now (Running r) =
+      let to = stationOf (Running r) in
+      let next = length-items F s (not (planOf st k .half)) k (r .next) in
+      either₂ (Agrees st s three k known to) (ltb (elapsed now (r .started)) expiryMs) (λ t. kept st s three k known to Silent silent refl)
+      (λ t. either₂ (Agrees st s three k known to) (ltb (r .repeats) maxRepeats)
+      (λ t. runs st s three k known to (askedAgain r now) (Ask (r .next)) (requests to (length (itemsIn F s (not (planOf st k .half)) k (r .next))) k) (ap (λ (n : ℕ). requests to n k) (sym next)))
+      (λ t. ends st s three k known to (Ack cancelled 0) (acks to cancelled k) refl))
 
-pub timer-agrees :
-    (st : State) (s : Bytes) → length (st .plans) ≡ length kinds → (k : ℕ) → isKnown k ≡ true → (now : ℕ)
-    → Agree (afterTimer st s now k) (onTimer (model.uploadOf (view st s) k) (view st s) now k)
-unfolding timerDone
-timer-agrees st s three k known now = rw (upload-shown st s k known) (timer-by st s three k known now (planOf st k .upload))
+  pub timer-agrees :
+      (st : State) (s : Store) → length (st .plans) ≡ length kinds → (k : ℕ) → isKnown k ≡ true → (now : ℕ)
+      → Agree (afterTimer st s now k) (onTimer (model.uploadOf (viewIn F st s) k) (viewIn F st s) now k)
+  unfolding timerDone
+  timer-agrees st s three k known now = rw (upload-shown F st s k known) (timer-by st s three k known now (planOf st k .upload))

@@ -1,6 +1,6 @@
 -- An item that a call brings is of the kind that the call is of.
 use Prim.Native.Nat.{ℕ}
-use mathlib.Core.Path.{_≡_, refl}
+use mathlib.Core.Path.{_≡_, refl, subst}
 use mathlib.Core.Bool.{Bool, not, _&&_}
 use lib.ListN.{length}
 use lib.Dec.{eqb, ltb}
@@ -18,7 +18,7 @@ OfItsKind kind clears = Unit {0}
 OfItsKind kind (acknowledges result) = Unit {0}
 OfItsKind kind (asksItem seq) = Unit {0}
 
-abbrev pub HeardKind : Heard → Type 0
+abbrev HeardKind : Heard → Type 0
 HeardKind (refuses outcome) = Unit {0}
 HeardKind (request from now kind r) = OfItsKind kind r
 HeardKind (expiry now kind) = Unit {0}
@@ -42,7 +42,7 @@ module _ (own from : Station) (now : ℕ) where
   message-kind (statustext severity text id chunk) = tt
   message-kind unknown = tt
 
-pub heard-kind : (ranged : Bool) (c : Call) → HeardKind (heard ranged c)
+heard-kind : (ranged : Bool) (c : Call) → HeardKind (heard ranged c)
 unfolding heard
 heard-kind ranged (message own from id payload clock store reply) =
     either HeardKind (ltb store storeWords) (λ t. tt)
@@ -54,3 +54,6 @@ heard-kind ranged (timer kind clock store reply) =
     (λ t. either HeardKind (not ranged) (λ t. tt)
     (λ t. either HeardKind (ltb reply replyBytesMin) (λ t. tt) (λ t. either HeardKind (isKnown kind) (λ t. tt) (λ t. tt))))
 heard-kind ranged (done store) = either HeardKind (ltb store storeWords) (λ t. tt) (λ t. either HeardKind (not ranged) (λ t. tt) (λ t. tt))
+
+pub request-kind : (ranged : Bool) (c : Call) {from : Station} {now kind : ℕ} {r : Request} → heard ranged c ≡ request from now kind r → OfItsKind kind r
+request-kind ranged c e = subst HeardKind e (heard-kind ranged c)

@@ -29,8 +29,10 @@ use Rattle.plan.specs.declared.State.{State}
 use Rattle.plan.specs.declared.Plan.{Plan}
 use Rattle.plan.specs.declared.Upload.{Upload}
 use Rattle.plan.specs.declared.Upload.the-variants.{Idle, Running}
-use Rattle.places.specs.Places.{itemsIn}
-use Rattle.plan.specs.View.{emptyPlan, planOf, view, freshState}
+use Rattle.rule_laws.specs.Brought.{request-kind}
+use Rattle.places.specs.Forms.{Store, words, itemsIn}
+use Rattle.places.specs.Places.{words-lawful}
+use Rattle.plan.specs.View.{emptyPlan, planOf, viewIn, view, freshState}
 use Rattle.ranges.specs.Ranges.{plansRanged, allRanged, in-range}
 use Rattle.ranges.specs.Ranged.{plans-ranged, flight-length, current-below}
 use Rattle.refusal.specs.Refusals.{refusalOf, requestOf, HeadRead, HeardMessage, HeardTimer, HeardDone, message-heard, timer-heard, done-heard}
@@ -90,11 +92,11 @@ served st h = record { state = st; outcome = h .said .outcome; id = h .said .id;
 
 -- a handler's effect, put into the state, serves the call
 applied-serves :
-    (c : Call) (st : State) (s s′ b b′ : Bytes) (k : ℕ) (d : Done) (h : Handled) → Steps c st s (after st k d) → commandIn (d .answer) ≡ rules.stuck
+    (c : Call) (st : State) (s s′ : Store) (b b′ : Bytes) (k : ℕ) (d : Done) (h : Handled) → Steps words words-lawful c st s (after st k d) → commandIn (d .answer) ≡ rules.stuck
     → DoneBy d s′ b b′ h → (e : Effect) → h .effect ≡ e → Serves c st s s′ b b′ (servedResult (served (applied st k e) h))
 applied-serves c st s s′ b b′ k d h steps stuck by e is =
     let spoken = by .handles .spoken in
-    steps-serve c st s s′ b b′ (after st k d) (servedResult (served (applied st k e) h)) steps
+    steps-serve words words-lawful c st s s′ b b′ (after st k d) (servedResult (served (applied st k e) h)) steps
     (record {
       state = ap (applied st k) (sym is ∙ by .handles .effect);
       store = by .store;
@@ -109,7 +111,7 @@ applied-serves c st s s′ b b′ k d h steps stuck by e is =
 -- ---- message
 
 -- a message call that is not refused: what its handler may rely on, and what is heard is what was received
-pub record MessageTaken (st : State) (s b : Bytes) (own from : Station) (id : ℕ) (p : Bytes) (clock : ℕ) (got : Received) : Type 0 where
+pub record MessageTaken (st : State) (s : Store) (b : Bytes) (own from : Station) (id : ℕ) (p : Bytes) (clock : ℕ) (got : Received) : Type 0 where
   pub ranges : inRange (view st s) ≡ true
   pub plans : plansRanged (planOf st flight) (planOf st fence) (planOf st rally) ≡ true
   pub three : length (st .plans) ≡ length kinds
@@ -118,7 +120,7 @@ pub record MessageTaken (st : State) (s b : Bytes) (own from : Station) (id : �
   pub read : isRead (decode id (got .own)) ≡ true
   pub says : heard (inRange (view st s)) (message own from id p clock (length s) (length b)) ≡ request from clock (got .head .kind) (requestOf (decode id (got .own)))
 
-module _ (st : State) (s b : Bytes) (own from : Station) (id : ℕ) (p : Bytes) (clock : ℕ) (ranged : Bool) (got : Received) (outcome : ℕ)
+module _ (st : State) (s : Store) (b : Bytes) (own from : Station) (id : ℕ) (p : Bytes) (clock : ℕ) (ranged : Bool) (got : Received) (outcome : ℕ)
     (test : ranged ≡ allRanged (planOf st flight) (planOf st fence) (planOf st rally) (st .current) (st .counts)) (read : ReadAs id p got)
     (refusal :
     (f : Station) (i : ℕ) (q : Bytes) (now : ℕ) → length q ≡ length p → HeadRead i q (got .read) (got .head)
@@ -130,7 +132,7 @@ module _ (st : State) (s b : Bytes) (own from : Station) (id : ℕ) (p : Bytes) 
   message-outcome = refusal from id p clock refl (record { isRead = read .read; heads = read .heads })
 
   pub message-refused : (outcome ≡ 0 → ⊥) → Serves sent st s s b b (servedResult (record { state = st; outcome = outcome; id = 0; len = 0 }))
-  message-refused some = refused-serves sent st s b ranged outcome (in-range st s ranged test) message-outcome some
+  message-refused some = refused-serves sent st s b ranged outcome (in-range words st s ranged test) message-outcome some
 
   pub message-taken : outcome ≡ 0 → length (st .plans) ≡ length kinds → MessageTaken st s b own from id p clock got
   message-taken none three =
@@ -139,14 +141,14 @@ module _ (st : State) (s b : Bytes) (own from : Station) (id : ℕ) (p : Bytes) 
       let own-bytes : decode id (got .own) ≡ decode id p = read .decodes is-read in
       let kind : got .head .kind ≡ kindOf (decode id p) = ap (λ (h : Head). h .kind) (read .heads is-read) in
       record {
-        ranges = sym (in-range st s ranged test) ∙ said .there .inRange;
+        ranges = sym (in-range words st s ranged test) ∙ said .there .inRange;
         plans = plans-ranged (planOf st flight) (planOf st fence) (planOf st rally) (st .current) (st .counts) (sym test ∙ said .there .inRange);
         three = three;
         long = said .there .long;
         room = said .there .room;
         read = ap isRead own-bytes ∙ said .read;
         says =
-            ap (λ (t : Bool). heard t sent) (sym (in-range st s ranged test)) ∙ said .says
+            ap (λ (t : Bool). heard t sent) (sym (in-range words st s ranged test)) ∙ said .says
             ∙ sym (ap₂ (λ (k : ℕ) (m : Message). request from clock k (requestOf m)) kind own-bytes);
       }
 
@@ -157,10 +159,10 @@ plan-at st three kind place stands known =
     ap (planOf st) (stands known) ∙ ap (λ (l : List Plan). getD l kind emptyPlan) (sym (three-plans (st .plans) three))
 
 -- what the handler did, and the place at which the plan of the kind stands
-module _ (st : State) (s b : Bytes) (own from : Station) (id : ℕ) (p : Bytes) (clock : ℕ) (got : Received) (taken : MessageTaken st s b own from id p clock got)
-    (s′ b′ : Bytes) (h : Handled)
+module _ (st : State) (s : Store) (b : Bytes) (own from : Station) (id : ℕ) (p : Bytes) (clock : ℕ) (got : Received) (taken : MessageTaken st s b own from id p clock got)
+    (s′ : Store) (b′ : Bytes) (h : Handled)
     (by :
-    DoneBy (messageDone (planOf st flight ∷ planOf st fence ∷ planOf st rally ∷ []) (st .current) s from clock (got .head .kind) (requestOf (decode id (got .own))))
+    DoneBy (messageDone words (planOf st flight ∷ planOf st fence ∷ planOf st rally ∷ []) (st .current) s from clock (got .head .kind) (requestOf (decode id (got .own))))
     s′ b b′ h) where
   abbrev c : Call
   c = message own from id p clock (length s) (length b)
@@ -171,14 +173,14 @@ module _ (st : State) (s b : Bytes) (own from : Station) (id : ℕ) (p : Bytes) 
   abbrev q : Request
   q = requestOf (decode id (got .own))
 
-  done-by : DoneBy (messageDone (st .plans) (st .current) s from clock k q) s′ b b′ h
+  done-by : DoneBy (messageDone words (st .plans) (st .current) s from clock k q) s′ b b′ h
   done-by = rw (three-plans (st .plans) (taken .three)) at by
 
   message-serves : (e : Effect) → h .effect ≡ e → Serves c st s s′ b b′ (servedResult (served (applied st k e) h))
   message-serves e is =
-      let agree = message-agrees st s (taken .three) (taken .long) (taken .ranges) from clock k q in
-      applied-serves c st s s′ b b′ k (messageDone (st .plans) (st .current) s from clock k q) h
-      (message-steps c st s (taken .three) (taken .ranges) (taken .long) from clock k q (taken .says))
+      let agree = message-agrees words words-lawful st s (taken .three) (taken .long) (taken .ranges) from clock k q (request-kind (inRange (view st s)) c (taken .says)) in
+      applied-serves c st s s′ b b′ k (messageDone words (st .plans) (st .current) s from clock k q) h
+      (message-steps words words-lawful c st s (taken .three) (taken .ranges) (taken .long) from clock k q (taken .says))
       (ap commandIn (agree .answer) ∙ plain-stuck (onMessage (view st s) from clock k q .answer) (message-plain (view st s) from clock k q))
       done-by e is
 
@@ -198,8 +200,8 @@ module _ (st : State) (s b : Bytes) (own from : Station) (id : ℕ) (p : Bytes) 
       (message-serves EmptiesAll is))
 
   -- a plan that is put in is of a known kind, and stands at its place
-  effect-ok : (e : Effect) → h .effect ≡ e → EffectOk k (planOf st k) e
-  effect-ok e is = subst (EffectOk k (planOf st k)) (sym (done-by .handles .effect) ∙ is) (message-effect st s (taken .three) (taken .long) (taken .ranges) from clock k q)
+  effect-ok : (e : Effect) → h .effect ≡ e → EffectOk words words-lawful k (planOf st k) e
+  effect-ok e is = subst (EffectOk words words-lawful k (planOf st k)) (sym (done-by .handles .effect) ∙ is) (message-effect words words-lawful st s (taken .three) (taken .long) (taken .ranges) from clock k q)
 
   module _ (place : ℕ) (stands : k ≤ rally → place ≡ k) (plan : Plan) where
     pub message-turns : h .effect ≡ Turns plan → Serves c st s s′ b b′ (servedResult (served (turnedState st place plan) h))
@@ -222,31 +224,31 @@ module _ (st : State) (s b : Bytes) (own from : Station) (id : ℕ) (p : Bytes) 
 -- ---- timer
 
 -- a timer call that is not refused
-pub record TimerTaken (st : State) (s b : Bytes) (kind clock : ℕ) : Type 0 where
+pub record TimerTaken (st : State) (s : Store) (b : Bytes) (kind clock : ℕ) : Type 0 where
   pub ranges : inRange (view st s) ≡ true
   pub three : length (st .plans) ≡ length kinds
   pub known : kind ≤ rally
   pub room : replyBytesMin ≤ length b
   pub says : heard (inRange (view st s)) (timer kind clock (length s) (length b)) ≡ expiry clock kind
 
-module _ (st : State) (s b : Bytes) (kind clock : ℕ) (ranged : Bool) (outcome : ℕ)
+module _ (st : State) (s : Store) (b : Bytes) (kind clock : ℕ) (ranged : Bool) (outcome : ℕ)
     (test : ranged ≡ allRanged (planOf st flight) (planOf st fence) (planOf st rally) (st .current) (st .counts))
     (refusal : (now : ℕ) → outcome ≡ refusalOf (heard ranged (timer kind now (length s) (length b)))) where
   abbrev ticked : Call
   ticked = timer kind clock (length s) (length b)
 
   pub timer-refused : (outcome ≡ 0 → ⊥) → Serves ticked st s s b b (servedResult (record { state = st; outcome = outcome; id = 0; len = 0 }))
-  timer-refused some = refused-serves ticked st s b ranged outcome (in-range st s ranged test) (refusal clock) some
+  timer-refused some = refused-serves ticked st s b ranged outcome (in-range words st s ranged test) (refusal clock) some
 
   pub timer-taken : outcome ≡ 0 → length (st .plans) ≡ length kinds → TimerTaken st s b kind clock
   timer-taken none three =
       let said : HeardTimer ranged kind clock (length s) (length b) = timer-heard ranged kind clock (length s) (length b) (sym (refusal clock) ∙ none) in
       record {
-        ranges = sym (in-range st s ranged test) ∙ said .there .inRange;
+        ranges = sym (in-range words st s ranged test) ∙ said .there .inRange;
         three = three;
         known = said .known;
         room = said .there .room;
-        says = ap (λ (t : Bool). heard t ticked) (sym (in-range st s ranged test)) ∙ said .says;
+        says = ap (λ (t : Bool). heard t ticked) (sym (in-range words st s ranged test)) ∙ said .says;
       }
 
 -- a timer call puts a plan in, or does nothing
@@ -276,17 +278,17 @@ no-turn EmptiesAll least tag = absurd least
 no-turn (Chooses seq) least tag = absurd least
 
 -- what the handler did
-module _ (st : State) (s b : Bytes) (kind clock : ℕ) (taken : TimerTaken st s b kind clock) (b′ : Bytes) (h : Handled)
+module _ (st : State) (s : Store) (b : Bytes) (kind clock : ℕ) (taken : TimerTaken st s b kind clock) (b′ : Bytes) (h : Handled)
     (by : (l : Bytes) → Handles (timerDone (planOf st kind) l clock kind .effect) (timerDone (planOf st kind) l clock kind .answer) b b′ h) where
   timer-serves : (e : Effect) → h .effect ≡ e → Serves (timer kind clock (length s) (length b)) st s s b b′ (servedResult (served (applied st kind e) h))
   unfolding timerDone
   timer-serves e is =
       let c = timer kind clock (length s) (length b) in
       let known = le-leb kind rally (taken .known) in
-      let agree = timer-agrees st s (taken .three) kind known clock in
+      let agree = timer-agrees words st s (taken .three) kind known clock in
       let u = model.uploadOf (view st s) kind in
       applied-serves c st s s b b′ kind (timerDone (planOf st kind) s clock kind) h
-      (timer-steps c st s (taken .three) (taken .ranges) clock kind known (taken .says))
+      (timer-steps words words-lawful c st s (taken .three) (taken .ranges) clock kind known (taken .says))
       (ap commandIn (agree .answer) ∙ plain-stuck (onTimer u (view st s) clock kind .answer) (timer-plain (view st s) u clock kind))
       (record { handles = by s; store = refl }) e is
 
@@ -303,7 +305,7 @@ module _ (st : State) (s b : Bytes) (kind clock : ℕ) (taken : TimerTaken st s 
 -- ---- "command done"
 
 -- a "command done" call that is not refused
-pub record DoneTaken (st : State) (s : Bytes) : Type 0 where
+pub record DoneTaken (st : State) (s : Store) : Type 0 where
   pub ranges : inRange (view st s) ≡ true
   pub three : length (st .plans) ≡ length kinds
   pub long : storeWords ≤ length s
@@ -311,31 +313,31 @@ pub record DoneTaken (st : State) (s : Bytes) : Type 0 where
   pub current : st .current < sizeOf flight
   pub says : heard (inRange (view st s)) (done (length s)) ≡ commandDone
 
-module _ (st : State) (s : Bytes) (ranged : Bool) (outcome : ℕ) (test : ranged ≡ allRanged (planOf st flight) (planOf st fence) (planOf st rally) (st .current) (st .counts))
+module _ (st : State) (s : Store) (ranged : Bool) (outcome : ℕ) (test : ranged ≡ allRanged (planOf st flight) (planOf st fence) (planOf st rally) (st .current) (st .counts))
     (refusal : outcome ≡ refusalOf (heard ranged (done (length s)))) where
   pub done-refused : (outcome ≡ 0 → ⊥) → Serves (done (length s)) st s s [] [] (advanceResult (record { state = st; outcome = outcome; command = Stuck }))
-  done-refused some = refused-serves (done (length s)) st s [] ranged outcome (in-range st s ranged test) refusal some
+  done-refused some = refused-serves (done (length s)) st s [] ranged outcome (in-range words st s ranged test) refusal some
 
   pub done-taken : outcome ≡ 0 → length (st .plans) ≡ length kinds → DoneTaken st s
   done-taken none three =
       let said : HeardDone ranged (length s) = done-heard ranged (length s) (sym refusal ∙ none) in
       let all : allRanged (planOf st flight) (planOf st fence) (planOf st rally) (st .current) (st .counts) ≡ true = sym test ∙ said .inRange in
       record {
-        ranges = sym (in-range st s ranged test) ∙ said .inRange;
+        ranges = sym (in-range words st s ranged test) ∙ said .inRange;
         three = three;
         long = said .long;
         len = flight-length (planOf st flight) (planOf st fence) (planOf st rally) (st .current) (st .counts) all;
         current = current-below (planOf st flight) (planOf st fence) (planOf st rally) (st .current) (st .counts) all;
-        says = ap (λ (t : Bool). heard t (done (length s))) (sym (in-range st s ranged test)) ∙ said .says;
+        says = ap (λ (t : Bool). heard t (done (length s))) (sym (in-range words st s ranged test)) ∙ said .says;
       }
 
 -- what is found in the flight plan, and the state that it makes
-module _ (st : State) (s : Bytes) (taken : DoneTaken st s) (f : Found)
+module _ (st : State) (s : Store) (taken : DoneTaken st s) (f : Found)
     (finds :
     foundOf f
-    ≡ rules.search maxFollowed (itemsIn s (planOf st flight .half) flight (planOf st flight .len)) (st .counts) (cond (st .begun) (st .current + 1) (st .current))) where
+    ≡ rules.search maxFollowed (itemsIn words s (planOf st flight .half) flight (planOf st flight .len)) (st .counts) (cond (st .begun) (st .current + 1) (st .current))) where
   ordered : OrderedBy st s (reachedState st (f .stands) (f .n) (f .counts)) (f .command)
-  unfolding rules.next view
+  unfolding rules.next viewIn
   ordered = reaches st s f finds
 
   done-serves : (stands : Bool) → f .stands ≡ stands
@@ -344,8 +346,8 @@ module _ (st : State) (s : Bytes) (taken : DoneTaken st s) (f : Found)
       let st′ = reachedState st stands (f .n) (f .counts) in
       let r = advanceResult (record { state = st′; outcome = noReply; command = f .command }) in
       let by : OrderedBy st s st′ (f .command) = subst (λ (t : Bool). OrderedBy st s (reachedState st t (f .n) (f .counts)) (f .command)) is ordered in
-      steps-serve (done (length s)) st s s [] [] (gives st′ s (orders (rules.answerOf (rules.next (view st s .shown))))) r
-      (done-steps (done (length s)) st s (taken .three) (taken .ranges) st′ (by .shown) (by .plans) (taken .says))
+      steps-serve words words-lawful (done (length s)) st s s [] [] (gives st′ s (orders (rules.answerOf (rules.next (view st s .shown))))) r
+      (done-steps words words-lawful (done (length s)) st s (taken .three) (taken .ranges) st′ (by .shown) (by .plans) (taken .says))
       (record { state = refl; store = refl; outcome = refl; id = refl; len = refl; command = by .answer; buffer = refl; reads = tt })
 
   pub done-stands : f .stands ≡ true

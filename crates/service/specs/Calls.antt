@@ -1,4 +1,4 @@
--- The promise of the public calls: `Serves` at the service's own state, and what each call returns as a result.
+-- The promise of the public calls: `Serves` at the service's own state and its store of words, and what each call returns as a result.
 use Prim.Native.Nat.{ℕ}
 use mathlib.Core.Path.{_≡_, refl, sym, ap, _∙_}
 use mathlib.Core.Bool.{Bool}
@@ -7,6 +7,8 @@ use Rattle.rules.specs.Model.{inRange}
 use Rattle.rules.specs.NextCommand as rules
 use Rattle.rules.specs.Calls.{Call, refuses, heard}
 use Rattle.rules.specs.Step.{refused}
+use Rattle.places.specs.Forms.{Store, words}
+use Rattle.places.specs.Places.{words-lawful}
 use Rattle.plan.specs.declared.State.{State}
 use Rattle.plan.specs.View.{view}
 use Rattle.refusal.specs.Refusals.{refusalOf, refused-with}
@@ -20,8 +22,8 @@ use Rattle.service.specs.declared.Served.{Served}
 use Rattle.service.specs.declared.Advanced.{Advanced}
 
 -- Call c on state st, store s and reply buffer b gives the result r, store s′ and buffer b′, as the rules settle it.
-abbrev pub Serves : Call → State → (s s′ b b′ : Bytes) → Result State → Type 0
-Serves = promise.Serves State view halfOf spare
+abbrev pub Serves : Call → State → (s s′ : Store) (b b′ : Bytes) → Result State → Type 0
+Serves = promise.Serves State view halfOf (spare words)
 
 -- what message and timer return
 abbrev pub servedResult : Served → Result State
@@ -33,10 +35,10 @@ advanceResult r = record { state = r .state; outcome = r .outcome; id = 0; len =
 
 -- a refused call
 pub refused-serves :
-    (c : Call) (st : State) (s b : Bytes) (ranged : Bool) (outcome : ℕ) → ranged ≡ inRange (view st s) → outcome ≡ refusalOf (heard ranged c) → (outcome ≡ 0 → ⊥)
+    (c : Call) (st : State) (s : Store) (b : Bytes) (ranged : Bool) (outcome : ℕ) → ranged ≡ inRange (view st s) → outcome ≡ refusalOf (heard ranged c) → (outcome ≡ 0 → ⊥)
     → Serves c st s s b b (record { state = st; outcome = outcome; id = 0; len = 0; command = rules.stuck })
 refused-serves c st s b ranged outcome in-range e other =
     let says : heard ranged c ≡ refuses outcome = refused-with (heard ranged c) outcome (sym e) other in
-    steps-serve c st s s b b (gives st s (refused outcome)) (record { state = st; outcome = outcome; id = 0; len = 0; command = rules.stuck })
-    (refused-steps c st s outcome (ap (λ (t : Bool). heard t c) (sym in-range) ∙ says))
+    steps-serve words words-lawful c st s s b b (gives st s (refused outcome)) (record { state = st; outcome = outcome; id = 0; len = 0; command = rules.stuck })
+    (refused-steps words words-lawful c st s outcome (ap (λ (t : Bool). heard t c) (sym in-range) ∙ says))
     (record { state = refl; store = refl; outcome = refl; id = refl; len = refl; command = refl; buffer = refl; reads = tt })

@@ -55,7 +55,7 @@ fn place_of(kind: u8) -> usize
 // A message call. Wrong answers that this rules out: refusing everything, and a reply that goes to another station than the sender.
 pub fn message(
     mut state: State,
-    store: &mut [u8],
+    store: &mut [u32],
     reply: &mut [u8],
     own_system: u8,
     own_component: u8,
@@ -143,7 +143,7 @@ pub fn message(
 }
 
 // A timer call for one kind. Wrong answers that this rules out: refusing everything, and expiries by another clock than the one handed in.
-pub fn timer(mut state: State, store: &[u8], reply: &mut [u8], kind: u8, clock: u32) -> Served
+pub fn timer(mut state: State, store: &[u32], reply: &mut [u8], kind: u8, clock: u32) -> Served
     ensures { λ r. ⌜ Serves (calls.timer kind clock (length (now (store .entry))) (length (now (reply .entry)))) state (now (store .entry)) (now (store .entry)) (now (reply .entry)) (now (reply .exit)) (servedResult r) ⌝ }
 {
     let flight = state.plans[0];
@@ -176,7 +176,7 @@ pub fn timer(mut state: State, store: &[u8], reply: &mut [u8], kind: u8, clock: 
 }
 
 // A "command done" call. Wrong answers that this rules out: an answer without moving on to its item, and outcome 0, as if a message had been written.
-pub fn advance(mut state: State, store: &[u8]) -> Advanced
+pub fn advance(mut state: State, store: &[u32]) -> Advanced
     ensures { λ r. ⌜ Serves (calls.done (length (now (store .entry)))) state (now (store .entry)) (now (store .entry)) [] [] (advanceResult r) ⌝ }
 {
     let flight = state.plans[0];
