@@ -5,11 +5,11 @@ use Rattle.console.proofs.main.Statement.{statement}
 use Rattle.console.proofs.main.Tie as tie
 
 abbrev Inv-loop : tie.InvT-loop
-Inv-loop input₀ out₀ store₀ copy₀ states₀ which₀ unread₀ at₀ turns₀ input out store copy states which unread at turns =
+Inv-loop input₀ out₀ store₀ copy₀ old₀ old-copy₀ states₀ which₀ unread₀ at₀ turns₀ input out store copy old old-copy states which unread at turns =
     which ≤ 1
 
 abbrev μ-loop : tie.MeasureT-loop
-μ-loop input₀ out₀ store₀ copy₀ states₀ which₀ unread₀ at₀ turns₀ input out store copy states which unread at turns =
+μ-loop input₀ out₀ store₀ copy₀ old₀ old-copy₀ states₀ which₀ unread₀ at₀ turns₀ input out store copy old old-copy states which unread at turns =
     turns
 
 slice-aggregate-input : tie.Need-slice-aggregate-input Inv-loop μ-loop
@@ -79,10 +79,10 @@ other-requires : tie.Need-other-requires Inv-loop μ-loop
 other-requires c κs = tt
 
 mul-states-3 : tie.Need-mul-states-3 Inv-loop μ-loop
-mul-states-3 c = let known = c .before .before .before .before .before .before .before .before .before .before .before .before .before .before .before .before .before .before .before .before .before .before .before .before .before .before .before .before .loop .inv in search needs
+mul-states-3 c = let known = c .before .before .before .before .before .before .before .before .before .before .before .before .before .before .before .before .before .before .before .before .before .before .before .before .before .before .before .before .before .before .loop .inv in search needs
 
 array-set-from-states-3 : tie.Need-array-set-from-states-3 Inv-loop μ-loop
-array-set-from-states-3 c = let known = c .before .before .before .before .before .before .before .before .before .before .before .before .before .before .before .before .before .before .before .before .before .before .before .before .before .before .before .before .loop .inv in search needs
+array-set-from-states-3 c = let known = c .before .before .before .before .before .before .before .before .before .before .before .before .before .before .before .before .before .before .before .before .before .before .before .before .before .before .before .before .before .before .loop .inv in search needs
 
 past-requires : tie.Need-past-requires Inv-loop μ-loop
 past-requires c κs = tt
