@@ -147,8 +147,8 @@ fn write(
         return;
     }
     let n = (r.a % 0x1_0000) as u16;
-    let place = host::item_place(state, r.b0, to == script::TO_OTHER_HALF, n);
-    writing::write_words(store, place, payload);
+    let word = host::item_word(state, r.b0, to == script::TO_OTHER_HALF, n);
+    writing::write_words(store, word, payload);
 }
 
 // What a host does between the calls.

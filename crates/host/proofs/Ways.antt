@@ -14,7 +14,7 @@ use Rattle.plan.specs.declared.Upload.{Upload}
 use Rattle.plan.specs.declared.Upload.the-variants.{Idle, Running}
 use Rattle.places.specs.Forms.{words, offsetOf}
 use Rattle.plan.specs.View.{emptyPlan, planOf}
-use Rattle.host.specs.Items.{itemPlace}
+use Rattle.host.specs.Items.{itemWord}
 use Rattle.host.specs.Pokes.{pokedRun, pokedUpload, pokedPlan, pokedPlans, pokedCounts, pokedState}
 
 module _ (u : Upload) (field v : ℕ) where
@@ -79,15 +79,15 @@ module _ (counts : List ℕ) (field index v : ℕ) where
   count-left e = rw e
 
 module _ (st : State) (kind : ℕ) (other : Bool) (n : ℕ) where
-  pub no-plan : rally < kind → 0 ≡ itemPlace st kind other n
-  unfolding itemPlace
+  pub no-plan : rally < kind → 0 ≡ itemWord st kind other n
+  unfolding itemWord
   no-plan h = rw (lt-leb kind rally h)
 
   module _ (h : kind ≤ rally) (r : ℕ) where
-    pub other-half : other ≡ true → r ≡ offsetOf words (not (planOf st kind .half)) kind n → r ≡ itemPlace st kind other n
-    unfolding itemPlace
+    pub other-half : other ≡ true → r ≡ offsetOf words (not (planOf st kind .half)) kind n → r ≡ itemWord st kind other n
+    unfolding itemWord
     other-half e is = rw (le-leb kind rally h, e) is
 
-    pub own-half : other ≡ false → r ≡ offsetOf words (planOf st kind .half) kind n → r ≡ itemPlace st kind other n
-    unfolding itemPlace
+    pub own-half : other ≡ false → r ≡ offsetOf words (planOf st kind .half) kind n → r ≡ itemWord st kind other n
+    unfolding itemWord
     own-half e is = rw (le-leb kind rally h, e) is

@@ -8,5 +8,5 @@ use Rattle.plan.specs.declared.State.{State}
 use Rattle.plan.specs.View.{planOf}
 
 -- "from item a of the plan of kind b0, in the half that the plan is in", or at "the same place in the other half"; 0 above the last kind
-unfoldable pub itemPlace : State → (kind : ℕ) (other : Bool) (n : ℕ) → ℕ
-itemPlace st kind other n = let half = planOf st kind .half in cond (leb kind rally) (offsetOf words (cond other (not half) half) kind n) 0
+unfoldable pub itemWord : State → (kind : ℕ) (other : Bool) (n : ℕ) → ℕ
+itemWord st kind other n = let half = planOf st kind .half in cond (leb kind rally) (offsetOf words (cond other (not half) half) kind n) 0

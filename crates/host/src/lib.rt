@@ -3,7 +3,7 @@ ghost use Prim.Native.Nat.{_%_};
 ghost use mathlib.Core.Path.{_≡_};
 ghost use mathlib.Core.Bool.{cond};
 ghost use Rattle.host.specs.Pokes.{pokedRun, pokedUpload, pokedPlan, pokedPlans, pokedCounts, pokedState};
-ghost use Rattle.host.specs.Items.{itemPlace};
+ghost use Rattle.host.specs.Items.{itemWord};
 use limits::JUMP_COUNTS;
 use limits::RALLY;
 use plan::Plan;
@@ -129,8 +129,8 @@ pub fn poked(state: State, field: u8, index: u8, value: u32) -> State
 
 // The store's word from which a host writes items, of the plan of a kind from number n on, in the half that the plan is in or in the other one. A kind that
 // is none has no plan, and the store's first word stands for it.
-pub fn item_place(state: State, kind: u8, other: bool, n: u16) -> usize
-    ensures { λ r. ⌜ r ≡ itemPlace state kind other n ⌝ }
+pub fn item_word(state: State, kind: u8, other: bool, n: u16) -> usize
+    ensures { λ r. ⌜ r ≡ itemWord state kind other n ⌝ }
 {
     if RALLY < kind {
         return 0;

@@ -1,8 +1,8 @@
--- `host::item_place` meets its contract, for each way that its tests can go.
+-- `host::item_word` meets its contract, for each way that its tests can go.
 use Rattle.host.proofs.Ways.{no-plan, other-half, own-half}
 use borrow.Author.Needs.{needs}
-use Rattle.host.proofs.item_place.Statement.{statement}
-use Rattle.host.proofs.item_place.Tie as tie
+use Rattle.host.proofs.item_word.Statement.{statement}
+use Rattle.host.proofs.item_word.Tie as tie
 
 returns : tie.Need-returns
 returns c = search (no-plan, needs)
@@ -25,8 +25,8 @@ place-at-requires-2 c κs = search needs
 returns-3 : tie.Need-returns-3
 returns-3 c = search (own-half, needs)
 
-pub item-place-spec : {M : Type 1} → statement M
-item-place-spec =
+pub item-word-spec : {M : Type 1} → statement M
+item-word-spec =
     tie.close
     (tie.spec
     returns
