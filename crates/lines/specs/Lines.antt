@@ -37,7 +37,7 @@ unfoldable pub doneLine : (outcome : ℕ) → Command → List ℕ
 doneLine outcome command = begun 100 (outcome ∷ []) ++ (commandText command ++ ascii "\n")
 
 -- "`v OUTCOME`" for a move
-abbrev pub movedLine : (outcome : ℕ) → List ℕ
+unfoldable pub movedLine : (outcome : ℕ) → List ℕ
 movedLine outcome = row 118 (outcome ∷ [])
 
 -- "the line `? TYPE`, and the program stops. A record cut by the end of input: `? cut`."
