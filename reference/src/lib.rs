@@ -9,6 +9,8 @@ pub mod items;
 pub mod layout;
 pub mod letter;
 pub mod limits;
+pub mod moves;
+pub mod player;
 pub mod random;
 pub mod script;
 pub mod search;

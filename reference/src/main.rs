@@ -12,7 +12,7 @@ use reference::compare::{compare, find_faults, Verdict};
 use reference::fault::{Fault, FAULTS};
 use reference::generate::{scripts, Script};
 use reference::letter::tell;
-use reference::script::play;
+use reference::player::play;
 use reference::speed;
 use reference::story;
 use reference::table;

@@ -10,10 +10,10 @@ use crate::compare::{describe_record, printed, run_program};
 use crate::fault::Fault;
 use crate::layout::{address, Address, Item, Message, COUNT, ITEM_INT};
 use crate::limits::*;
-use crate::script::{field, record, Record};
+use crate::script::{array, field, record, script_bytes, Record};
 use crate::table::{Act, Call, Reply, Row, Setting, TESTS};
 
-/// What fills the store at a fresh start.
+/// What fills the stores at a fresh start.
 const STORE_FILL: u8 = 0xEE;
 
 /// Each test of a value: the item's kind, command and frame, and which of its
@@ -40,7 +40,7 @@ const USUAL: Host = Host {
     own: address(1, 1),
     sender: address(255, 190),
     clock: 0,
-    store: STORE_BYTES as u32,
+    store: STORE_WORDS as u32,
     reply: REPLY_BYTES as u32,
 };
 
@@ -86,10 +86,8 @@ impl Script<'_> {
     }
 
     pub fn bytes(&self) -> Vec<u8> {
-        let mut bytes = Vec::new();
-        self.steps.iter().for_each(|step| step.record.write(&mut bytes));
-        Record::of(record::END).write(&mut bytes);
-        bytes
+        let end = Record::of(record::END);
+        script_bytes(self.steps.iter().map(|step| &step.record).chain([&end]))
     }
 }
 
@@ -115,6 +113,18 @@ impl Writer {
         self.push(Record { b, a: value, ..Record::of(record::POKE) }, Want::Any);
     }
 
+    /// Pokes fields one after the other.
+    fn poke_all(&mut self, first: u8, index: u8, values: &[u32]) {
+        for (poked, value) in (first..).zip(values) {
+            self.poke(poked, index, *value);
+        }
+    }
+
+    /// SNAP or CMP of the store or of the store of bytes.
+    fn copied(&mut self, kind: u8, of: u8, want: Want) {
+        self.push(Record { b: [0, 0, 0, 0, of], ..Record::of(kind) }, want);
+    }
+
     fn set(&mut self, setting: &Setting) {
         match setting {
             Setting::Fresh => self.fresh(),
@@ -124,15 +134,19 @@ impl Writer {
             Setting::Lent { store, reply } => {
                 (self.host.store, self.host.reply) = (*store, *reply);
             }
+            Setting::Copies => {
+                self.copied(record::SNAP, array::STORE, Want::Any);
+                self.copied(record::SNAP, array::OLD, Want::Any);
+            }
             Setting::Current(item) => self.poke(field::CURRENT, 0, u32::from(*item)),
+            Setting::Plan { kind, numbers } => self.poke_all(field::LENGTH, *kind, numbers),
             Setting::Upload { kind, numbers } => {
                 self.poke(field::RUNNING, *kind, 1);
-                for (poked, number) in (field::SYSTEM..=field::REPEATS).zip(numbers) {
-                    self.poke(poked, *kind, *number);
-                }
+                self.poke_all(field::SYSTEM, *kind, numbers);
             }
-            Setting::Write { at, bytes } => {
-                let write = Record { a: *at, payload: bytes.clone(), ..Record::of(record::WRITE) };
+            Setting::Write { written, kind, at, bytes } => {
+                let (b, payload) = ([*kind, 0, 0, 0, *written], bytes.clone());
+                let write = Record { b, a: *at, payload, ..Record::of(record::WRITE) };
                 self.push(write, Want::Any);
             }
         }
@@ -151,6 +165,15 @@ impl Writer {
                 }
             }
             Call::Done { answer, counts } => self.done(answer, counts),
+            Call::Move { old, outcome } => {
+                let store = self.host.store;
+                let moved = Record { a: *old, store, ..Record::of(record::MOVE) };
+                self.push(moved, Want::Line(format!("v {outcome}")));
+            }
+            Call::AsCopied([store, old]) => {
+                self.copied(record::CMP, array::STORE, Want::Line(format!("s {store}")));
+                self.copied(record::CMP, array::OLD, Want::Line(format!("s {old}")));
+            }
         }
     }
 
@@ -295,7 +318,9 @@ fn shares<'a>(steps: &[Step], text: &'a str) -> Vec<Vec<&'a str>> {
     let mut shares: Vec<Vec<&str>> = Vec::with_capacity(steps.len());
     for step in steps {
         let share = match step.record.kind {
-            record::MESSAGE | record::TIMER | record::DONE => lines.next().into_iter().collect(),
+            record::MESSAGE | record::TIMER | record::DONE | record::CMP | record::MOVE => {
+                lines.next().into_iter().collect()
+            }
             record::DUMP => iter::from_fn(|| lines.next_if(|line| of_dump(line))).collect(),
             _ => Vec::new(),
         };
@@ -527,7 +552,7 @@ mod tests {
         let script = Script::of(&rows);
         let found = misses(&script, &[Printed::by_reference(&script)]);
         let words = "line 2: first\n  \
-                     record:    TIMER kind 0 clock 0 store 26752 reply 54\n  \
+                     record:    TIMER kind 0 clock 0 store 5632 reply 54\n  \
                      wanted:    t 12 0 0 -\n  \
                      reference: t 1 0 0 -";
         assert_eq!(found[0].to_string(), words);

@@ -61,7 +61,7 @@ fn a_table_that_does_not_hold() {
     let table = Scratch::new("other", &TABLE.replace("fly 0", "fly 1"));
     let (status, out, _) = run(&["vectors", "--table", table.name()]);
     assert_eq!(status, Some(1));
-    let shown = "line 3: first\n  record:    DONE store 26752\n  wanted:    d 1 fly 1\n  reference: d 1 fly 0\n";
+    let shown = "line 3: first\n  record:    DONE store 5632\n  wanted:    d 1 fly 1\n  reference: d 1 fly 0\n";
     assert!(out.contains(shown), "{out}");
     assert!(out.ends_with("vectors: 1 of 3 cases differ\n"), "{out}");
 }

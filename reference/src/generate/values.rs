@@ -108,7 +108,7 @@ fn body(random: &mut Random, kind: usize, number: u16, command: u16) -> Item {
         to: address(0, 0),
         frame,
         current: random.pick(&[0, 0, 1, 255]),
-        autocontinue: random.pick(&[0, 1, 1, 200]),
+        autocontinue: random.pick(&[0, 1, 1, 200, 255]),
         kind: kind as u8,
     }
 }
@@ -305,6 +305,17 @@ pub fn spoil(random: &mut Random, item: &mut Item, count: u16) {
         20 => item.frame = 2,
         21 => item.frame = random.byte(),
         _ => item.command = edge_command(random),
+    }
+}
+
+/// An item whose last word's fields are at their edges, with a command of the kind or any.
+pub fn last_word_fields(random: &mut Random, kind: usize) -> Item {
+    let own = random.pick(commands(kind));
+    Item {
+        command: random.pick(&[own, own, own | 0x8000, own ^ 0x100, 0, u16::MAX]),
+        frame: random.pick(&[0, 2, 3, 11, 128, 255]),
+        autocontinue: random.pick(&[0, 1, 2, 128, 255]),
+        ..Item::default()
     }
 }
 
