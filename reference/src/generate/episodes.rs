@@ -11,7 +11,7 @@ type Episode = fn(&mut Generator);
 const EPISODES: &[(usize, Episode)] = &[
     (24, Generator::small_upload),
     (2, Generator::full_upload),
-    (30, Generator::edge_items),
+    (48, Generator::edge_items),
     (14, Generator::fence_upload),
     (14, Generator::fly),
     (8, Generator::fly_loop),
@@ -25,7 +25,7 @@ const EPISODES: &[(usize, Episode)] = &[
     (12, Generator::host_writes_plan),
     (6, Generator::host_writes_upload),
     (3, Generator::write_ends),
-    (12, Generator::move_plans),
+    (14, Generator::move_plans),
     (5, Generator::any_download),
     (6, Generator::clears),
     (8, Generator::random_messages),

@@ -75,7 +75,7 @@ pub fn scripts(seed: u64, calls: usize) -> impl Iterator<Item = Script> {
     let rest = calls % CALLS_PER_SCRIPT;
     let sizes = std::iter::repeat_n(CALLS_PER_SCRIPT, full).chain((rest > 0).then_some(rest));
     sizes.enumerate().map(move |(number, size)| {
-        let mixed = Random::new(seed).draw() ^ Random::new(number as u64).draw();
+        let mixed = Random::new(seed).draw() ^ number as u64;
         Generator::new(mixed).script(size)
     })
 }
@@ -428,12 +428,20 @@ impl Generator {
 #[cfg(test)]
 mod tests {
     use super::*;
+    use std::collections::HashSet;
 
     #[test]
     fn a_seed_gives_one_list() {
         let list = |seed| scripts(seed, 3000).map(|script| script.bytes()).collect::<Vec<_>>();
         assert_eq!(list(1), list(1));
         assert_ne!(list(1), list(2));
+    }
+
+    #[test]
+    fn no_two_lists_share_a_script() {
+        let all: Vec<_> = (1..=12).flat_map(|seed| scripts(seed, 20_000)).collect();
+        let different: HashSet<_> = all.iter().map(Script::bytes).collect();
+        assert_eq!(different.len(), all.len());
     }
 
     #[test]
