@@ -9,6 +9,7 @@ pub mod items;
 pub mod layout;
 pub mod letter;
 pub mod limits;
+pub mod moved;
 pub mod moves;
 pub mod player;
 pub mod random;

@@ -316,17 +316,8 @@ mod tests {
         String::from_utf8(out).unwrap()
     }
 
-    /// A record with these b0 and b4.
-    fn with(kind: u8, b0: u8, b4: u8) -> Record {
-        Record { b: [b0, 0, 0, 0, b4], ..Record::of(kind) }
-    }
-
-    fn poke(field: u8, index: u8, value: u32) -> Record {
-        Record { a: value, ..with(record::POKE, index, field) }
-    }
-
-    fn write(written: u8, kind: u8, at: u32, payload: Vec<u8>) -> Record {
-        Record { a: at, payload, ..with(record::WRITE, kind, written) }
+    fn fresh(fill: u8) -> Record {
+        Record { b: [fill, 0, 0, 0, 0], ..Record::of(record::FRESH) }
     }
 
     #[test]
@@ -338,18 +329,18 @@ mod tests {
         assert_eq!(played(&[]), "");
         assert_eq!(played(&script_bytes(&[Record::of(record::END), dump.clone()])), "");
         assert_eq!(played(&script_bytes([&dump])[..23]), "? cut\n");
-        let write = write(target::WORDS, 0, 0, vec![1; 4]);
+        let write = Record::host_write(target::WORDS, 0, 0, vec![1; 4]);
         assert_eq!(played(&script_bytes([&write])[..26]), "? cut\n");
         assert_eq!(played(&script_bytes(&[Record::of(10), dump])), "? 10\n");
     }
 
     #[test]
     fn snap_compare_write() {
-        let word = |value: u8| write(target::WORDS, 0, 5_663, vec![7, 7, 7, value]);
-        let byte = |value| write(target::OLD, 0, 26_879, vec![value]);
-        let both = |kind| [array::STORE, array::OLD].map(|b4| with(kind, 0, b4));
+        let word = |value: u8| Record::host_write(target::WORDS, 0, 5_663, vec![7, 7, 7, value]);
+        let byte = |value| Record::host_write(target::OLD, 0, 26_879, vec![value]);
+        let both = |kind| [array::STORE, array::OLD].map(|array| Record::about(kind, array));
         let (snap, [words, old]) = (both(record::SNAP), both(record::CMP));
-        let mut script = vec![words.clone(), old.clone(), with(record::FRESH, 7, 0)];
+        let mut script = vec![words.clone(), old.clone(), fresh(7)];
         script.extend([words.clone(), old.clone()]);
         script.extend(snap);
         for change in [word(7), byte(7), word(8), byte(8)] {
@@ -365,14 +356,14 @@ mod tests {
     fn a_host_writes_items() {
         let item = Item { command: 5100, frame: 0x12, autocontinue: 0xFE, ..Item::default() };
         let payload = word_bytes(&words_of(&item));
-        let mut script = vec![with(record::FRESH, 0, 0)];
-        script.extend([poke(field::LENGTH, 2, 2), poke(field::HALF, 2, 1)]);
+        let mut script = vec![fresh(0)];
+        script.extend([Record::poke(field::LENGTH, 2, 2), Record::poke(field::HALF, 2, 1)]);
         script.extend([
-            write(target::PLAN, 2, 0, payload.clone()),
-            write(target::OTHER_HALF, 2, 1, payload.clone()),
-            write(target::WORDS, 0, (352 + 321) * 8, payload),
+            Record::host_write(target::PLAN, 2, 0, payload.clone()),
+            Record::host_write(target::OTHER_HALF, 2, 1, payload.clone()),
+            Record::host_write(target::WORDS, 0, (352 + 321) * 8, payload),
             Record::of(record::DUMP),
-            poke(field::HALF, 2, 0),
+            Record::poke(field::HALF, 2, 0),
             Record::of(record::DUMP),
         ]);
         let lines = played(&script_bytes(&script));
@@ -389,21 +380,20 @@ mod tests {
 
     #[test]
     fn a_move() {
-        let mut moved = Record { a: 26_752, store: 5_632, ..Record::of(record::MOVE) };
-        let old = write(target::OLD, 0, 38, (1..=38).collect());
+        let mut moved = Record::moving(26_752, 5_632);
+        let old = Record::host_write(target::OLD, 0, 38, (1..=38).collect());
         let script = [
-            with(record::FRESH, 0xEE, 0),
+            fresh(0xEE),
             old,
-            poke(field::LENGTH, 0, 2),
-            poke(field::RUNNING, 0, 1),
+            Record::poke(field::LENGTH, 0, 2),
+            Record::poke(field::RUNNING, 0, 1),
             moved.clone(),
-            poke(field::COUNT, 0, 1),
+            Record::poke(field::COUNT, 0, 1),
             moved.clone(),
             Record::of(record::DUMP),
         ];
         let lines = played(&script_bytes(&script));
-        let zeros_count_is_out_of_range = "v 15\nv 1\n";
-        assert!(lines.starts_with(zeros_count_is_out_of_range), "{lines}");
+        assert!(lines.starts_with("v 15\nv 1\n"), "{lines}");
         let fill = "EE".repeat(28);
         assert!(lines.contains(&format!("i 0 0 {fill}0000EEEE0000EE00EE00\n")), "{lines}");
         let words: String = (1..=28).map(|byte| format!("{byte:02X}")).collect();

@@ -82,6 +82,29 @@ impl Record {
         Record { kind, ..Record::default() }
     }
 
+    pub fn poke(poked: u8, index: u8, value: u32) -> Record {
+        Record { b: [index, 0, 0, 0, poked], a: value, ..Record::of(record::POKE) }
+    }
+
+    /// Pokes of one field after the other, with the same index.
+    pub fn pokes(first: u8, index: u8, values: &[u32]) -> Vec<Record> {
+        (first..).zip(values).map(|(poked, value)| Record::poke(poked, index, *value)).collect()
+    }
+
+    pub fn host_write(written: u8, kind: u8, at: u32, payload: Vec<u8>) -> Record {
+        Record { b: [kind, 0, 0, 0, written], a: at, payload, ..Record::of(record::WRITE) }
+    }
+
+    /// A SNAP or CMP of the store or the old one.
+    pub fn about(kind: u8, array: u8) -> Record {
+        Record { b: [0, 0, 0, 0, array], ..Record::of(kind) }
+    }
+
+    /// The move out of so many bytes into so many words.
+    pub fn moving(old: u32, store: u32) -> Record {
+        Record { a: old, store, ..Record::of(record::MOVE) }
+    }
+
     /// True for message, timer and done calls.
     pub fn is_call(&self) -> bool {
         matches!(self.kind, record::MESSAGE | record::TIMER | record::DONE)
@@ -242,15 +265,9 @@ mod tests {
         assert_eq!(next(&record), Next::Record(record));
     }
 
-    /// A WRITE about a target, with so many bytes from `a` on.
-    fn write(written: u8, kind: u8, a: u32, len: usize) -> Record {
-        let b = [kind, 0, 0, 0, written];
-        Record { b, a, payload: vec![0; len], ..Record::of(record::WRITE) }
-    }
-
-    /// A record with this b4.
-    fn with(kind: u8, b4: u8) -> Record {
-        Record { b: [0, 0, 0, 0, b4], ..Record::of(kind) }
+    /// A WRITE of so many bytes.
+    fn write(written: u8, kind: u8, at: u32, len: usize) -> Record {
+        Record::host_write(written, kind, at, vec![0; len])
     }
 
     #[test]
@@ -265,15 +282,15 @@ mod tests {
             Record { store: 5_665, ..of(record::DONE) },
             Record { store: 5_665, ..of(record::POKE) },
             Record { reply: 65, ..of(record::TIMER) },
-            with(record::FRESH, 1),
-            with(record::SNAP, 2),
-            with(record::CMP, 2),
-            with(record::POKE, 13),
-            Record { b: [3, 0, 0, 0, 9], ..of(record::POKE) },
-            Record { b: [1, 0, 0, 0, 10], ..of(record::POKE) },
-            Record { b: [15, 0, 0, 0, 12], ..of(record::POKE) },
-            Record { a: 26_881, ..of(record::MOVE) },
-            Record { store: 5_665, ..of(record::MOVE) },
+            Record { b: [0, 0, 0, 0, 1], ..of(record::FRESH) },
+            Record::about(record::SNAP, 2),
+            Record::about(record::CMP, 2),
+            Record::poke(13, 0, 0),
+            Record::poke(9, 3, 0),
+            Record::poke(10, 1, 0),
+            Record::poke(12, 15, 0),
+            Record::moving(26_881, 0),
+            Record::moving(0, 5_665),
             write(target::WORDS, 0, 0, 3),
             write(target::WORDS, 0, 5_664, 4),
             write(target::WORDS, 0, 5_663, 8),
@@ -298,9 +315,9 @@ mod tests {
     fn records_that_just_can_be_played() {
         let good = [
             Record { store: 5_664, reply: 64, ..Record::of(record::DONE) },
-            with(record::SNAP, 1),
-            with(record::CMP, 1),
-            Record { a: 26_880, store: 5_664, ..Record::of(record::MOVE) },
+            Record::about(record::SNAP, 1),
+            Record::about(record::CMP, 1),
+            Record::moving(26_880, 5_664),
             write(target::WORDS, 9, 5_663, 4),
             write(target::WORDS, 0, 5_664, 0),
             write(target::PLAN, 0, 247, 288),

@@ -108,21 +108,10 @@ impl Writer {
         self.push(Record { b: [STORE_FILL, 0, 0, 0, 0], ..Record::of(record::FRESH) }, Want::Any);
     }
 
-    fn poke(&mut self, poked: u8, index: u8, value: u32) {
-        let b = [index, 0, 0, 0, poked];
-        self.push(Record { b, a: value, ..Record::of(record::POKE) }, Want::Any);
-    }
-
-    /// Pokes fields one after the other.
-    fn poke_all(&mut self, first: u8, index: u8, values: &[u32]) {
-        for (poked, value) in (first..).zip(values) {
-            self.poke(poked, index, *value);
-        }
-    }
-
-    /// SNAP or CMP of the store or of the store of bytes.
-    fn copied(&mut self, kind: u8, of: u8, want: Want) {
-        self.push(Record { b: [0, 0, 0, 0, of], ..Record::of(kind) }, want);
+    /// Pokes of one field after the other, with the same index.
+    fn poke(&mut self, first: u8, index: u8, values: &[u32]) {
+        let pokes = Record::pokes(first, index, values);
+        pokes.into_iter().for_each(|poke| self.push(poke, Want::Any));
     }
 
     fn set(&mut self, setting: &Setting) {
@@ -135,19 +124,17 @@ impl Writer {
                 (self.host.store, self.host.reply) = (*store, *reply);
             }
             Setting::Copies => {
-                self.copied(record::SNAP, array::STORE, Want::Any);
-                self.copied(record::SNAP, array::OLD, Want::Any);
+                self.push(Record::about(record::SNAP, array::STORE), Want::Any);
+                self.push(Record::about(record::SNAP, array::OLD), Want::Any);
             }
-            Setting::Current(item) => self.poke(field::CURRENT, 0, u32::from(*item)),
-            Setting::Plan { kind, numbers } => self.poke_all(field::LENGTH, *kind, numbers),
+            Setting::Current(item) => self.poke(field::CURRENT, 0, &[u32::from(*item)]),
+            Setting::Plan { kind, numbers } => self.poke(field::LENGTH, *kind, numbers),
             Setting::Upload { kind, numbers } => {
-                self.poke(field::RUNNING, *kind, 1);
-                self.poke_all(field::SYSTEM, *kind, numbers);
+                self.poke(field::RUNNING, *kind, &[1]);
+                self.poke(field::SYSTEM, *kind, numbers);
             }
             Setting::Write { written, kind, at, bytes } => {
-                let (b, payload) = ([*kind, 0, 0, 0, *written], bytes.clone());
-                let write = Record { b, a: *at, payload, ..Record::of(record::WRITE) };
-                self.push(write, Want::Any);
+                self.push(Record::host_write(*written, *kind, *at, bytes.clone()), Want::Any);
             }
         }
     }
@@ -166,13 +153,13 @@ impl Writer {
             }
             Call::Done { answer, counts } => self.done(answer, counts),
             Call::Move { old, outcome } => {
-                let store = self.host.store;
-                let moved = Record { a: *old, store, ..Record::of(record::MOVE) };
-                self.push(moved, Want::Line(format!("v {outcome}")));
+                let moving = Record::moving(*old, self.host.store);
+                self.push(moving, Want::Line(format!("v {outcome}")));
             }
             Call::AsCopied([store, old]) => {
-                self.copied(record::CMP, array::STORE, Want::Line(format!("s {store}")));
-                self.copied(record::CMP, array::OLD, Want::Line(format!("s {old}")));
+                for (array, same) in [(array::STORE, store), (array::OLD, old)] {
+                    self.push(Record::about(record::CMP, array), Want::Line(format!("s {same}")));
+                }
             }
         }
     }

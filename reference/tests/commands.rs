@@ -1,4 +1,4 @@
-//! The commands `vectors` and `letter`: their status and what they print.
+//! The commands `vectors`, `moved` and `letter`: their status and what they print.
 
 use std::fs;
 use std::path::PathBuf;
@@ -87,6 +87,23 @@ fn what_cannot_be_played() {
     let arguments = ["vectors", "--table", good.name(), "--console", "no such program"];
     assert_eq!(run(&arguments).0, Some(2));
     assert_eq!(run(&["vectors", "--table", "no such table"]).0, Some(2));
+}
+
+const BASE: [&str; 5] =
+    ["moved", "--script", "tests/moved/base.bin", "--lines", "tests/moved/base.exp"];
+
+#[test]
+fn moved_plans() {
+    let (status, out, _) = run(&BASE);
+    assert_eq!(status, Some(0));
+    assert_eq!(out, "moved: 152 lines as before the move\n");
+    let (status, out, _) = run(&[&BASE[..], &["--console", PROGRAM]].concat());
+    assert_eq!(status, Some(1));
+    let shown =
+        "the console answers otherwise, line 1\n  before the move v 1\n  after it no line\n";
+    assert_eq!(out, format!("moved: {shown}"));
+    assert_eq!(run(&[&BASE[..], &["--console", "no such program"]].concat()).0, Some(2));
+    assert_eq!(run(&BASE[..3]).0, Some(2));
 }
 
 #[test]

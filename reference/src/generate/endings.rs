@@ -35,7 +35,6 @@ impl Generator {
     /// A record of a type, or with a number, that is not known.
     fn bad_record(&mut self) -> Record {
         let of = Record::of;
-        let with = |kind, b0, b4| Record { b: [b0, 0, 0, 0, b4], ..of(kind) };
         let past_store = STORE_ARRAY as u32 + 1;
         let any = self.random.within(0, 9) as u8;
         match self.random.below(16) {
@@ -47,14 +46,14 @@ impl Generator {
             5 => Record { store: past_store, ..of(any.max(1)) },
             6 => Record { store: OLD_STORE_BYTES as u32, ..of(record::DONE) },
             7 => Record { reply: REPLY_ARRAY as u32 + 1, ..of(record::TIMER) },
-            8 => with(record::POKE, 0, 13),
-            9 => with(record::POKE, 3, 1),
-            10 => with(record::POKE, 15, 12),
-            11 => with(record::FRESH, 0, 1),
-            12 => with(record::SNAP, 0, self.random.pick(&[2, 3, 255])),
-            13 => with(record::CMP, 0, self.random.pick(&[2, 3, 255])),
-            14 => Record { a: OLD_ARRAY as u32 + 1, store: 0, ..of(record::MOVE) },
-            _ => Record { a: 0, store: past_store, ..of(record::MOVE) },
+            8 => Record::poke(13, 0, 0),
+            9 => Record::poke(field::NUMBER, 3, 0),
+            10 => Record::poke(field::JUMP_COUNT, MAX_JUMPS as u8, 0),
+            11 => Record { b: [0, 0, 0, 0, 1], ..of(record::FRESH) },
+            12 => Record::about(record::SNAP, self.random.pick(&[2, 3, 255])),
+            13 => Record::about(record::CMP, self.random.pick(&[2, 3, 255])),
+            14 => Record::moving(OLD_ARRAY as u32 + 1, 0),
+            _ => Record::moving(0, past_store),
         }
     }
 
@@ -80,8 +79,7 @@ impl Generator {
             12 => (target::OLD, kind, u32::MAX as usize, 1),
             _ => (self.random.pick(&[4, 5, 255]), kind, 0, WRITTEN_ITEM),
         };
-        let b = [kind as u8, 0, 0, 0, written];
-        Record { b, a: at as u32, payload: vec![1; len], ..Record::of(record::WRITE) }
+        Record::host_write(written, kind as u8, at as u32, vec![1; len])
     }
 
     /// A record that the end of input cuts, in its header or its payload.

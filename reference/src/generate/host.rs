@@ -9,8 +9,7 @@ use crate::store::{words_of, Shelf};
 
 impl Generator {
     fn write(&mut self, written: u8, kind: usize, at: usize, payload: Vec<u8>) {
-        let b = [kind as u8, 0, 0, 0, written];
-        self.emit(Record { b, a: at as u32, payload, ..Record::of(record::WRITE) });
+        self.emit(Record::host_write(written, kind as u8, at as u32, payload));
     }
 
     fn write_words(&mut self, at: usize, words: &[u32]) {

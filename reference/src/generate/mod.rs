@@ -367,7 +367,7 @@ impl Generator {
 
     /// A SNAP or CMP of the old store.
     fn of_old_store(&mut self, kind: u8) {
-        self.emit(Record { b: [0, 0, 0, 0, array::OLD], ..Record::of(kind) });
+        self.emit(Record::about(kind, array::OLD));
     }
 
     fn fresh(&mut self) {
@@ -379,8 +379,7 @@ impl Generator {
     }
 
     fn poke(&mut self, poked: u8, index: usize, value: u32) {
-        let b = [index as u8, 0, 0, 0, poked];
-        self.emit(Record { b, a: value, ..Record::of(record::POKE) });
+        self.emit(Record::poke(poked, index as u8, value));
     }
 
     fn poke_length(&mut self, kind: usize, length: u16) {
@@ -398,17 +397,16 @@ impl Generator {
         self.settle_free_places(kind);
         let Upload { station, count, next, start, repeats } = upload.unwrap_or_default();
         let values = [
-            (field::RUNNING, u32::from(upload.is_some())),
-            (field::SYSTEM, u32::from(station.system)),
-            (field::COMPONENT, u32::from(station.component)),
-            (field::COUNT, u32::from(count)),
-            (field::NEXT, u32::from(next)),
-            (field::START, start),
-            (field::REPEATS, u32::from(repeats)),
+            u32::from(upload.is_some()),
+            u32::from(station.system),
+            u32::from(station.component),
+            u32::from(count),
+            u32::from(next),
+            start,
+            u32::from(repeats),
         ];
-        for (poked, value) in values {
-            self.poke(poked, kind, value);
-        }
+        let pokes = Record::pokes(field::RUNNING, kind as u8, &values);
+        pokes.into_iter().for_each(|poke| self.emit(poke));
     }
 
     /// Writes an item over every place of the kind whose words are free.

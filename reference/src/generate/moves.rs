@@ -90,7 +90,7 @@ impl Generator {
     }
 
     fn emit_move(&mut self, old: u32, store: u32) {
-        self.emit(Record { a: old, store, ..Record::of(record::MOVE) });
+        self.emit(Record::moving(old, store));
     }
 
     /// A length of the old store that suffices.
