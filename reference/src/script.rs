@@ -175,7 +175,7 @@ pub fn write_fits(written: u8, kind: u8, at: usize, len: usize) -> bool {
         target::OLD => (1, OLD_ARRAY),
         _ => return false,
     };
-    len % unit == 0 && at + len / unit <= end
+    len.is_multiple_of(unit) && at + len / unit <= end
 }
 
 /// The bytes of a row of records.

@@ -10,12 +10,12 @@ use crate::store::Shelf;
 impl Generator {
     /// Plans and uploads that stand in the old store are moved and looked at.
     pub(super) fn move_plans(&mut self) {
-        for kind in 0..KINDS {
+        for (kind, size) in PLAN_SIZE.into_iter().enumerate() {
             if self.random.chance(3, 4) {
                 self.old_plan(kind);
             }
             if self.random.chance(1, 3) {
-                let upload = self.good_upload(PLAN_SIZE[kind]);
+                let upload = self.good_upload(size);
                 self.poke_upload(kind, Some(upload));
             }
         }
@@ -135,7 +135,7 @@ impl Generator {
     /// The plans as they were moved, that no upload runs, and the words beside.
     fn after_move(&mut self) {
         self.maybe_dump(2, 3);
-        for kind in 0..KINDS {
+        for (kind, size) in PLAN_SIZE.into_iter().enumerate() {
             match self.random.below(6) {
                 0 => self.download(kind),
                 1 => self.any_timer(kind),
@@ -147,7 +147,7 @@ impl Generator {
                 }
                 3 => {
                     let more = self.random.within(1, 3) as u16;
-                    self.poke_length(kind, PLAN_SIZE[kind].min(self.length(kind) + more));
+                    self.poke_length(kind, size.min(self.length(kind) + more));
                     self.maybe_dump(1, 1);
                 }
                 _ => self.any_request(kind),
