@@ -6,7 +6,8 @@ use crate::service::{Message, Served, Service, Station};
 
 pub const HEADER: usize = 24;
 const MOST_PAYLOAD: usize = 300;
-const MOST_STORE: u32 = 26_880;
+/// Words of the store array.
+pub const MOST_STORE: u32 = 5_664;
 const REPLY_ARRAY: usize = 64;
 const FILL: [u8; REPLY_ARRAY] = [0xA5; REPLY_ARRAY];
 

@@ -20,7 +20,7 @@ extern "C" {
     fn douzanelh_replay(
         calls: *const u8,
         length: usize,
-        store: *mut u8,
+        store: *mut u32,
         store_length: usize,
         told: *mut u8,
         room: usize,
@@ -46,7 +46,7 @@ pub fn write(severity: u8, text: &[u8], id: u16, chunk: u8, out: &mut [u8]) -> u
 }
 
 /// Plays the calls of a list from a fresh start over a store, tells what they return as far as there is room, and answers the sum of it.
-pub fn replay(calls: &[u8], store: &mut [u8], told: &mut [u8]) -> u64 {
+pub fn replay(calls: &[u8], store: &mut [u32], told: &mut [u8]) -> u64 {
     let (store, store_length) = (store.as_mut_ptr(), store.len());
     let (told, room) = (told.as_mut_ptr(), told.len());
     unsafe { douzanelh_replay(calls.as_ptr(), calls.len(), store, store_length, told, room) }

@@ -6,17 +6,17 @@ use std::path::{Path, PathBuf};
 use std::process::Command;
 use std::time::Instant;
 
-use bench::console::{record, HEADER};
-use bench::service::{REPLY_BYTES, STORE_BYTES};
+use bench::console::{record, HEADER, MOST_STORE};
+use bench::service::{REPLY_BYTES, STORE_WORDS};
 use bench::slots;
 
 use crate::measure::Times;
 use crate::random::Random;
 
-/// What a call is lent: so many bytes of the store, and of the reply array.
+/// What a call is lent: so many words of the store, and bytes of the reply array.
 type Lent = (u32, u32);
 
-const LEAST: Lent = (STORE_BYTES as u32, REPLY_BYTES as u32);
+const LEAST: Lent = (STORE_WORDS as u32, REPLY_BYTES as u32);
 
 fn put_record(script: &mut Vec<u8>, start: &[u8; 16], payload: &[u8], lent: Lent) {
     let at = script.len();
@@ -46,7 +46,7 @@ fn edges(calls: &[u8]) -> Vec<Vec<u8>> {
     let lent = || {
         let (store, reply) = LEAST;
         (
-            random.of(&[0, store - 1, store, store, store + 128]),
+            random.of(&[0, store - 1, store, store, MOST_STORE]),
             random.of(&[0, reply - 1, reply, 64]),
         )
     };
@@ -65,9 +65,9 @@ fn edges(calls: &[u8]) -> Vec<Vec<u8>> {
         ending(record::FRESH, 1, 0, LEAST),
         ending(record::MESSAGE, 0, 300, LEAST),
         ending(record::MESSAGE, 0, 301, LEAST),
-        ending(record::TIMER, 0, 0, (26_880, 64)),
-        ending(record::TIMER, 0, 0, (26_881, 64)),
-        ending(record::TIMER, 0, 0, (26_880, 65)),
+        ending(record::TIMER, 0, 0, (MOST_STORE, 64)),
+        ending(record::TIMER, 0, 0, (MOST_STORE + 1, 64)),
+        ending(record::TIMER, 0, 0, (MOST_STORE, 65)),
         begun.clone(),
         Vec::new(),
     ];

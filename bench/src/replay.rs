@@ -89,7 +89,7 @@ impl Seen {
 /// Plays a list over both services, and sees that they return the same. What they told.
 fn same_replies(calls: &[u8]) -> Result<Vec<u8>, String> {
     let (mut ours, mut plain) = (vec![0; calls.len()], vec![0; calls.len()]);
-    let our_sum = ours::replay(calls, &mut [0; STORE_BYTES], &mut ours);
+    let our_sum = ours::replay(calls, &mut [0; STORE_WORDS], &mut ours);
     let plain_sum = slots::replay(calls, &mut plain);
     same_told(calls, &ours, &plain)?;
     if our_sum != plain_sum {
@@ -114,7 +114,7 @@ fn same_told(calls: &[u8], ours: &[u8], plain: &[u8]) -> Result<(), String> {
 
 /// The least times of both services over a list, which tell nothing meanwhile.
 fn play_services(runs: usize, calls: &[u8]) -> Times {
-    let mut store = vec![0; STORE_BYTES];
+    let mut store = vec![0; STORE_WORDS];
     compare(
         &Effort { calls: 1, runs },
         way("ours", || ours::replay(calls, &mut store, &mut []) as usize),
@@ -179,7 +179,7 @@ pub fn once(whose: &str, name: &str) -> Result<(), String> {
     let (_, list) = LISTS.iter().find(|(known, _)| *known == name).ok_or("no such list")?;
     let calls = list(WHOLE.0);
     let sum = match whose {
-        "ours" => ours::replay(&calls, &mut [0; STORE_BYTES], &mut []),
+        "ours" => ours::replay(&calls, &mut [0; STORE_WORDS], &mut []),
         "plain" => slots::replay(&calls, &mut []),
         _ => return Err("ours or plain".to_string()),
     };

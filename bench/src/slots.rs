@@ -1,6 +1,6 @@
 //! Lists of calls in slots, as the crate `replay` plays them: here over the service in plain Rust.
 
-use crate::service::{Message, Served, Service, Station, STORE_BYTES};
+use crate::service::{Message, Served, Service, Station, STORE_WORDS};
 
 /// A call stands in a slot: 0 message (1) or timer (2), 1 and 2 own system and component, 3 and 4 the sender's, 5 kind, 6 length of the payload, 8 id,
 /// 12 clock, 16 payload. What it returned is told in a slot too: 0 outcome, 1 length, 4 id, 8 the reply's bytes.
@@ -34,7 +34,7 @@ pub fn id_told(slot: &[u8; SLOT]) -> u32 {
 /// Makes the call of a slot.
 pub fn serve(service: &mut Service, slot: &[u8; SLOT], reply: &mut [u8]) -> Served {
     if slot[0] != MESSAGE {
-        return service.timer(slot[5], clock(slot), STORE_BYTES, reply);
+        return service.timer(slot[5], clock(slot), STORE_WORDS, reply);
     }
     let call = Message {
         own: Station { system: slot[1], component: slot[2] },
@@ -43,7 +43,7 @@ pub fn serve(service: &mut Service, slot: &[u8; SLOT], reply: &mut [u8]) -> Serv
         payload: payload(slot),
         clock: clock(slot),
     };
-    service.message(&call, STORE_BYTES, reply)
+    service.message(&call, STORE_WORDS, reply)
 }
 
 fn tell(told: &mut [u8], served: Served, reply: &[u8]) {

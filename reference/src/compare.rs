@@ -8,7 +8,8 @@ use std::thread;
 
 use crate::fault::{Fault, FAULTS};
 use crate::generate::{scripts, Script};
-use crate::script::{read_record, record, Next, Player, Record};
+use crate::player::Player;
+use crate::script::{array, read_record, record, target, Next, Record};
 
 /// The lines that one step of a script prints, and what was played.
 struct Step {
@@ -127,11 +128,24 @@ pub fn describe_record(record: &Record) -> String {
         record::DONE => format!("DONE store {store}"),
         record::DUMP => "DUMP".to_string(),
         record::FRESH => format!("FRESH {b0:02X}"),
-        record::SNAP => "SNAP".to_string(),
-        record::CMP => "CMP".to_string(),
+        record::SNAP => format!("SNAP {}", store_name(b4)),
+        record::CMP => format!("CMP {}", store_name(b4)),
         record::POKE => format!("POKE field {b4} index {b0} value {a}"),
-        record::WRITE => format!("WRITE at {a} {payload}"),
+        record::WRITE => match b4 {
+            target::PLAN => format!("WRITE plan {b0} from item {a} {payload}"),
+            target::OTHER_HALF => format!("WRITE other half {b0} from item {a} {payload}"),
+            target::OLD => format!("WRITE old store from byte {a} {payload}"),
+            _ => format!("WRITE from word {a} {payload}"),
+        },
+        record::MOVE => format!("MOVE old {a} store {store}"),
         kind => format!("type {kind}"),
+    }
+}
+
+fn store_name(of: u8) -> &'static str {
+    match of {
+        array::OLD => "old store",
+        _ => "store",
     }
 }
 
@@ -210,12 +224,12 @@ mod tests {
     }
 
     #[test]
-    fn lists_show_no_free_bytes() {
+    fn lists_show_no_free_words() {
         for seed in 0..10 {
             for script in scripts(seed, 4000) {
                 let bytes = script.bytes();
                 let good = steps(&bytes, Fault::None);
-                let difference = first_difference(&good, &printed(&bytes, Fault::FreeBytes));
+                let difference = first_difference(&good, &printed(&bytes, Fault::FreeWords));
                 assert!(difference.is_none(), "seed {seed}: {}", difference.unwrap());
             }
         }

@@ -9,8 +9,8 @@ macro_rules! faults {
         pub enum Fault {
             /// The rules as they are.
             None,
-            /// No fault: bytes that the rules leave free are written otherwise.
-            FreeBytes,
+            /// No fault: words that the rules leave free are written otherwise.
+            FreeWords,
             $(#[doc = $what] $case,)*
         }
 
@@ -45,8 +45,8 @@ faults! {
     EmptyShowsNumber "empty-shows-number" "an empty plan shows its number"
     EmptySwitchesHalf "empty-switches-half" "emptying a plan switches its half"
     HalfNotSwitched "half-not-switched" "a replacement leaves the half"
-    AddressKept "address-kept" "the stored item keeps the address bytes"
-    CurrentKept "current-kept" "the stored item keeps the sent current field"
+    AddressKept "address-kept" "the address bytes are kept in place of frame and autocontinue"
+    CurrentKept "current-kept" "the sent current field is kept in place of autocontinue"
     FenceResetsFlight "fence-resets-flight" "emptying any plan restarts the flight"
     SetCurrentBegun "set-current-begun" "SET_CURRENT leaves begun"
     SetCurrentCounts "set-current-counts" "SET_CURRENT sets the jump counts to 0"
@@ -78,6 +78,26 @@ faults! {
     PassedCounted "passed-counted" "jumps passed over count towards 64"
     StuckKeepsCounts "stuck-keeps-counts" "Stuck keeps the jump counts of its search"
     SearchTrusts "search-trusts" "the search does not judge the items it answers with"
+    FrameSwapped "frame-swapped" "frame and autocontinue have each other's place in the last word"
+    FencePlaceEarly "fence-place-early" "fence items lie one place early"
+    SeqIsPlace "seq-is-place" "a stored item's seq is its place in the half"
+    KindNotPutBack "kind-not-put-back" "a stored item's kind is 0"
+    ShortAt5632 "short-at-5632" "5632 words of store are too short"
+    LongAt5631 "long-at-5631" "5631 words of store suffice"
+    MoveShortAt26752 "move-short-at-26752" "26752 bytes of old store are too short for the move"
+    MoveLongAt26751 "move-long-at-26751" "26751 bytes of old store suffice for the move"
+    MoveNewUnjudged "move-new-unjudged" "the move does not judge the new store's length"
+    MoveRangeFirst "move-range-first" "the move judges the ranges before the lengths"
+    MoveUploadsUnjudged "move-uploads-unjudged" "the move does not judge the numbers of uploads"
+    MoveRefusedEnds "move-refused-ends" "a refused move ends the uploads"
+    MoveKeepsUpload "move-keeps-upload" "the move leaves the uploads"
+    MoveForgetsRally "move-forgets-rally" "the move leaves the rally plan behind"
+    MoveOtherHalf "move-other-half" "the move takes the items of the other half"
+    MoveToFirstHalf "move-to-first-half" "the move puts every plan into the first half"
+    MoveBySeq "move-by-seq" "the move puts an item where its seq says"
+    MoveLeavesInvalid "move-leaves-invalid" "the move leaves out items that break the rules"
+    MoveWritesBeside "move-writes-beside" "the move writes zeros past the end of each plan"
+    MoveResetsProgress "move-resets-progress" "the move restarts the flight"
 }
 
 impl Fault {

@@ -190,7 +190,7 @@ fn command_name(command: u16) -> &'static str {
 }
 
 /// Bytes from their digits; `-` is none.
-fn from_hex(digits: &str) -> Option<Vec<u8>> {
+pub fn from_hex(digits: &str) -> Option<Vec<u8>> {
     if digits == "-" {
         return Some(Vec::new());
     }

@@ -14,10 +14,14 @@ pub const PLAN_SIZE: [u16; KINDS] = [256, 64, 32];
 pub const FIRST_PLACE: [usize; KINDS] = [0, 256, 320];
 /// Item places in a half of the store.
 pub const HALF_PLACES: usize = 352;
-/// Bytes of a stored item.
+/// Words of a stored item.
+pub const ITEM_WORDS: usize = 8;
+/// Words of the store.
+pub const STORE_WORDS: usize = 2 * HALF_PLACES * ITEM_WORDS;
+/// Bytes of an item in its message, and in the store of bytes.
 pub const ITEM_BYTES: usize = 38;
-/// Bytes of the store.
-pub const STORE_BYTES: usize = 2 * HALF_PLACES * ITEM_BYTES;
+/// Bytes of the store of bytes, from which plans are moved (request M-106).
+pub const OLD_STORE_BYTES: usize = 2 * HALF_PLACES * ITEM_BYTES;
 /// Bytes of the reply buffer; the longest message has as many.
 pub const REPLY_BYTES: usize = 54;
 

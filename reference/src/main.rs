@@ -1,5 +1,5 @@
-//! Commands of the reference: play, generate, compare, vectors, letter, faults,
-//! selftest-faults and speed.
+//! Commands of the reference: play, generate, compare, vectors, moved, letter,
+//! faults, selftest-faults and speed.
 
 use std::collections::HashMap;
 use std::fs::{self, File};
@@ -8,11 +8,12 @@ use std::path::Path;
 use std::process::ExitCode;
 use std::str::FromStr;
 
-use reference::compare::{compare, find_faults, Verdict};
+use reference::compare::{compare, find_faults, printed, run_program, Verdict};
 use reference::fault::{Fault, FAULTS};
 use reference::generate::{scripts, Script};
 use reference::letter::tell;
-use reference::script::play;
+use reference::moved::Moved;
+use reference::player::play;
 use reference::speed;
 use reference::story;
 use reference::table;
@@ -25,6 +26,8 @@ reference compare --seed N --calls M --console PATH [--fault F] [--out FILE]
                                                         with the program at PATH; FILE gets a script that differs
 reference vectors --table FILE [--console PATH] [--out FILE]
                                                         the table's cases; FILE gets their script
+reference moved --script FILE --lines FILE [--console PATH]
+                                                        plans that were written over bytes, moved, and asked for again
 reference letter --story FILE --console PATH            the story, told by what the program at PATH prints
 reference faults                                        the faults that --fault plants
 reference selftest-faults --seed N --calls M            finds every fault, without another program
@@ -57,6 +60,7 @@ fn run(command: &str, options: &Options) -> Answer {
         "generate" => generate(options),
         "compare" => compare_with(options),
         "vectors" => play_table(options),
+        "moved" => move_plans(options),
         "letter" => tell_story(options),
         "faults" => list_faults(),
         "selftest-faults" => selftest_faults(options),
@@ -113,6 +117,10 @@ fn generate(options: &Options) -> Answer {
     Ok(ExitCode::SUCCESS)
 }
 
+fn read_text(name: &str) -> Result<String, String> {
+    fs::read_to_string(name).map_err(|error| format!("{name}: {error}"))
+}
+
 fn write_file(name: &str, bytes: &[u8]) -> Result<(), String> {
     let write = File::create(name).and_then(|mut file| file.write_all(bytes));
     write.map_err(|error| format!("{name}: {error}"))
@@ -142,7 +150,7 @@ fn compare_with(options: &Options) -> Answer {
 
 fn play_table(options: &Options) -> Answer {
     let file = options.text("table").ok_or("--table is missing")?;
-    let text = fs::read_to_string(file).map_err(|error| format!("{file}: {error}"))?;
+    let text = read_text(file)?;
     let rows = table::read(&text).map_err(|error| format!("{file}, {error}"))?;
     let table = Table::of(&rows);
     if let Some(out) = options.text("out") {
@@ -164,10 +172,30 @@ fn play_table(options: &Options) -> Answer {
     Ok(ExitCode::from(DIFFERENT))
 }
 
+fn move_plans(options: &Options) -> Answer {
+    let file = options.text("script").ok_or("--script is missing")?;
+    let lines = read_text(options.text("lines").ok_or("--lines is missing")?)?;
+    let script = fs::read(file).map_err(|error| format!("{file}: {error}"))?;
+    let moved = Moved::read(&script, &lines).map_err(|error| format!("{file}: {error}"))?;
+    let mut programs = vec![("the reference", printed(&moved.script(), Fault::None))];
+    if let Some(console) = options.text("console") {
+        let lines = run_program(Path::new(console), moved.script()).map_err(failed)?;
+        programs.push(("the console", lines));
+    }
+    for (program, lines) in &programs {
+        if let Some(difference) = moved.difference(lines) {
+            println!("moved: {program} answers otherwise, {difference}");
+            return Ok(ExitCode::from(DIFFERENT));
+        }
+    }
+    println!("moved: {} lines as before the move", moved.lines());
+    Ok(ExitCode::SUCCESS)
+}
+
 fn tell_story(options: &Options) -> Answer {
     let file = options.text("story").ok_or("--story is missing")?;
     let console = options.text("console").ok_or("--console is missing")?;
-    let text = fs::read_to_string(file).map_err(|error| format!("{file}: {error}"))?;
+    let text = read_text(file)?;
     let parts = story::read(&text).map_err(|error| format!("{file}, {error}"))?;
     match tell(&parts, Path::new(console)).map_err(failed)? {
         Ok(told) => {

@@ -1,23 +1,19 @@
-//! Call scripts: records, their bytes, and the player that prints the lines.
+//! Call scripts: records, their bytes, and which of them can be played.
 
-use std::io::{self, Read, Write};
+use std::io::{self, Read};
 
-use crate::fault::Fault;
-use crate::layout::address;
 use crate::limits::*;
-use crate::search::Command;
-use crate::service::{MessageCall, Returned, Service};
-use crate::state::{State, Upload};
-use crate::store::Shelf;
 
 pub const HEADER_BYTES: usize = 24;
 /// Longest payload of a record.
 pub const MAX_PAYLOAD: usize = 300;
-/// Bytes of the player's store and reply arrays.
-pub const STORE_ARRAY: usize = 26_880;
+/// Words of the player's store array; bytes of its old store and reply arrays.
+pub const STORE_ARRAY: usize = 5_664;
+pub const OLD_ARRAY: usize = 26_880;
 pub const REPLY_ARRAY: usize = 64;
-/// The reply array is filled with this before each message and timer call.
-const REPLY_FILL: u8 = 0xA5;
+/// Bytes of a word and of an item in a WRITE.
+pub const WORD_BYTES: usize = 4;
+pub const WRITTEN_ITEM: usize = ITEM_WORDS * WORD_BYTES;
 
 /// Record types.
 pub mod record {
@@ -31,6 +27,25 @@ pub mod record {
     pub const CMP: u8 = 7;
     pub const POKE: u8 = 8;
     pub const WRITE: u8 = 9;
+    pub const MOVE: u8 = 18;
+}
+
+/// What a WRITE is about, its b4.
+pub mod target {
+    /// The store, from word a on.
+    pub const WORDS: u8 = 0;
+    /// Items of kind b0 in the half of its plan, from item a on.
+    pub const PLAN: u8 = 1;
+    /// The same in the other half.
+    pub const OTHER_HALF: u8 = 2;
+    /// The old store, from byte a on.
+    pub const OLD: u8 = 3;
+}
+
+/// What SNAP and CMP are about, their b4.
+pub mod array {
+    pub const STORE: u8 = 0;
+    pub const OLD: u8 = 1;
 }
 
 /// Fields of a POKE.
@@ -67,6 +82,29 @@ impl Record {
         Record { kind, ..Record::default() }
     }
 
+    pub fn poke(poked: u8, index: u8, value: u32) -> Record {
+        Record { b: [index, 0, 0, 0, poked], a: value, ..Record::of(record::POKE) }
+    }
+
+    /// Pokes of one field after the other, with the same index.
+    pub fn pokes(first: u8, index: u8, values: &[u32]) -> Vec<Record> {
+        (first..).zip(values).map(|(poked, value)| Record::poke(poked, index, *value)).collect()
+    }
+
+    pub fn host_write(written: u8, kind: u8, at: u32, payload: Vec<u8>) -> Record {
+        Record { b: [kind, 0, 0, 0, written], a: at, payload, ..Record::of(record::WRITE) }
+    }
+
+    /// A SNAP or CMP of the store or the old one.
+    pub fn about(kind: u8, array: u8) -> Record {
+        Record { b: [0, 0, 0, 0, array], ..Record::of(kind) }
+    }
+
+    /// The move out of so many bytes into so many words.
+    pub fn moving(old: u32, store: u32) -> Record {
+        Record { a: old, store, ..Record::of(record::MOVE) }
+    }
+
     /// True for message, timer and done calls.
     pub fn is_call(&self) -> bool {
         matches!(self.kind, record::MESSAGE | record::TIMER | record::DONE)
@@ -97,13 +135,16 @@ impl Record {
         (record, len)
     }
 
-    /// True if the header's type, lengths, field and index are as they may be.
+    /// True if the header's type, lengths, field, index and places are as they may be.
     fn header_fits(&self, len: usize) -> bool {
+        let [b0, .., b4] = self.b;
         let known = match self.kind {
-            record::MESSAGE..=record::DUMP | record::SNAP | record::CMP => true,
-            record::FRESH => self.b[4] == 0,
-            record::POKE => poke_fits(self.b[4], self.b[0]),
-            record::WRITE => self.a as usize + len <= STORE_ARRAY,
+            record::MESSAGE..=record::DUMP => true,
+            record::FRESH => b4 == 0,
+            record::SNAP | record::CMP => matches!(b4, array::STORE | array::OLD),
+            record::POKE => poke_fits(b4, b0),
+            record::WRITE => write_fits(b4, b0, self.a as usize, len),
+            record::MOVE => self.a as usize <= OLD_ARRAY,
             _ => false,
         };
         known
@@ -123,6 +164,32 @@ fn poke_fits(poked: u8, index: u8) -> bool {
     usize::from(index) < indices
 }
 
+/// True if whole words, items or bytes are written, none past the end.
+pub fn write_fits(written: u8, kind: u8, at: usize, len: usize) -> bool {
+    let (unit, end) = match written {
+        target::WORDS => (WORD_BYTES, STORE_ARRAY),
+        target::PLAN | target::OTHER_HALF => match PLAN_SIZE.get(usize::from(kind)) {
+            Some(size) => (WRITTEN_ITEM, usize::from(*size)),
+            None => return false,
+        },
+        target::OLD => (1, OLD_ARRAY),
+        _ => return false,
+    };
+    len.is_multiple_of(unit) && at + len / unit <= end
+}
+
+/// The bytes of a row of records.
+pub fn script_bytes<'a>(records: impl IntoIterator<Item = &'a Record>) -> Vec<u8> {
+    let mut bytes = Vec::new();
+    records.into_iter().for_each(|record| record.write(&mut bytes));
+    bytes
+}
+
+/// The bytes of words, lowest first.
+pub fn word_bytes(words: &[u32]) -> Vec<u8> {
+    words.iter().flat_map(|word| word.to_le_bytes()).collect()
+}
+
 /// What stands next in a script.
 #[derive(Debug, PartialEq, Eq)]
 pub enum Next {
@@ -136,6 +203,11 @@ pub enum Next {
 
 /// Reads the next record of a script.
 pub fn read_record(input: &mut impl Read) -> io::Result<Next> {
+    read_if(input, Record::header_fits)
+}
+
+/// Reads the next record of a script, if its header and payload's length pass a test.
+pub fn read_if(input: &mut impl Read, fits: fn(&Record, usize) -> bool) -> io::Result<Next> {
     let mut header = [0; HEADER_BYTES];
     match read_up_to(input, &mut header)? {
         0 => return Ok(Next::End),
@@ -146,7 +218,7 @@ pub fn read_record(input: &mut impl Read) -> io::Result<Next> {
     if record.kind == record::END {
         return Ok(Next::End);
     }
-    if !record.header_fits(len) {
+    if !fits(&record, len) {
         return Ok(Next::Bad(record.kind));
     }
     record.payload = vec![0; len];
@@ -170,296 +242,12 @@ fn read_up_to(input: &mut impl Read, buffer: &mut [u8]) -> io::Result<usize> {
     Ok(filled)
 }
 
-/// Plays a whole script and prints its lines.
-pub fn play(input: &mut impl Read, output: &mut impl Write, fault: Fault) -> io::Result<()> {
-    let mut player = Player::new(fault);
-    let mut lines = Vec::new();
-    loop {
-        let next = read_record(input)?;
-        let last = !matches!(next, Next::Record(_));
-        player.step(&next, &mut lines);
-        output.write_all(&lines)?;
-        lines.clear();
-        if last {
-            return output.flush();
-        }
-    }
-}
-
-/// The service with the arrays that its calls are lent.
-pub struct Player {
-    pub service: Service,
-    pub store: Vec<u8>,
-    pub reply: [u8; REPLY_ARRAY],
-    /// What the last message or timer call returned.
-    pub returned: Returned,
-    copy: Vec<u8>,
-}
-
-impl Player {
-    /// A fresh start over zeros.
-    pub fn new(fault: Fault) -> Player {
-        Player {
-            service: Service::fresh(fault),
-            store: vec![0; STORE_ARRAY],
-            reply: [0; REPLY_ARRAY],
-            returned: Returned::default(),
-            copy: vec![0; STORE_ARRAY],
-        }
-    }
-
-    pub fn state(&self) -> &State {
-        &self.service.state
-    }
-
-    /// Plays what stands next and adds its lines to `out`.
-    pub fn step(&mut self, next: &Next, out: &mut Vec<u8>) {
-        match next {
-            Next::Record(record) => self.record(record, out),
-            Next::End => {}
-            Next::Cut => out.extend(b"? cut\n"),
-            Next::Bad(kind) => print(out, format_args!("? {kind}\n")),
-        }
-    }
-
-    /// Plays a record that fits and adds its lines to `out`.
-    pub fn record(&mut self, record: &Record, out: &mut Vec<u8>) {
-        match record.kind {
-            record::MESSAGE => self.message(record, out),
-            record::TIMER => self.timer(record, out),
-            record::DONE => self.done(record, out),
-            record::DUMP => self.dump(out),
-            record::FRESH => {
-                self.service = Service::fresh(self.service.fault);
-                self.store.fill(record.b[0]);
-            }
-            record::SNAP => self.copy.copy_from_slice(&self.store),
-            record::CMP => print(out, format_args!("s {}\n", u8::from(self.store == self.copy))),
-            record::POKE => poke(&mut self.service.state, record.b[4], record.b[0], record.a),
-            record::WRITE => {
-                let at = record.a as usize;
-                self.store[at..at + record.payload.len()].copy_from_slice(&record.payload);
-            }
-            _ => {}
-        }
-    }
-
-    fn message(&mut self, record: &Record, out: &mut Vec<u8>) {
-        let [own_system, own_component, sender_system, sender_component, _] = record.b;
-        let call = MessageCall {
-            own: address(own_system, own_component),
-            sender: address(sender_system, sender_component),
-            id: record.a,
-            payload: &record.payload,
-            clock: record.clock,
-        };
-        self.reply.fill(REPLY_FILL);
-        let store = &mut self.store[..record.store as usize];
-        let reply = &mut self.reply[..record.reply as usize];
-        self.returned = self.service.message(&call, store, reply);
-        self.print_returned('m', out);
-    }
-
-    fn timer(&mut self, record: &Record, out: &mut Vec<u8>) {
-        self.reply.fill(REPLY_FILL);
-        let store = &self.store[..record.store as usize];
-        let reply = &mut self.reply[..record.reply as usize];
-        self.returned = self.service.timer(record.b[4], record.clock, store, reply);
-        self.print_returned('t', out);
-    }
-
-    fn print_returned(&self, letter: char, out: &mut Vec<u8>) {
-        let Returned { outcome, id, len } = self.returned;
-        print(out, format_args!("{letter} {outcome} {id} {len} "));
-        if len == 0 {
-            out.push(b'-');
-        }
-        print_hex(&self.reply[..len], out);
-        if self.reply[len..].iter().any(|byte| *byte != REPLY_FILL) {
-            out.extend(b" B");
-        }
-        out.push(b'\n');
-    }
-
-    fn done(&mut self, record: &Record, out: &mut Vec<u8>) {
-        let store = &self.store[..record.store as usize];
-        let (outcome, command) = self.service.done(store);
-        print(out, format_args!("d {outcome} "));
-        match command {
-            Command::Fly(n) => print(out, format_args!("fly {n}")),
-            Command::Wait(n, amount) => print(out, format_args!("wait {n} {amount:08X}")),
-            Command::Near(n, amount) => print(out, format_args!("near {n} {amount:08X}")),
-            Command::Turn(n, amount) => print(out, format_args!("turn {n} {amount:08X}")),
-            Command::Speed(n, amount) => print(out, format_args!("speed {n} {amount:08X}")),
-            Command::Servo(n, first, second) => {
-                print(out, format_args!("servo {n} {first} {second}"))
-            }
-            Command::Finished => out.extend(b"finished"),
-            Command::Stuck => out.extend(b"stuck"),
-        }
-        out.push(b'\n');
-    }
-
-    fn dump(&self, out: &mut Vec<u8>) {
-        if !self.state().in_range() {
-            out.extend(b"D 15\n");
-            return;
-        }
-        out.extend(b"D 0\n");
-        for kind in 0..KINDS {
-            self.dump_kind(kind, out);
-        }
-        let State { current, begun, jump_counts, .. } = self.state();
-        print(out, format_args!("c {current} {}", u8::from(*begun)));
-        for count in jump_counts {
-            print(out, format_args!(" {count}"));
-        }
-        out.push(b'\n');
-    }
-
-    fn dump_kind(&self, kind: usize, out: &mut Vec<u8>) {
-        let plan = &self.state().plans[kind];
-        let shown = plan.shown_number();
-        let (length, number, half) = (plan.length, plan.number, plan.half);
-        print(out, format_args!("k {kind} {length} {number} {shown} {half}\n"));
-        match plan.upload {
-            None => print(out, format_args!("u {kind} -\n")),
-            Some(Upload { station, count, next, start, repeats }) => {
-                let (system, component) = (station.system, station.component);
-                print(out, format_args!("u {kind} {system} {component} "));
-                print(out, format_args!("{count} {next} {start} {repeats}\n"));
-            }
-        }
-        self.dump_items('i', Shelf { kind, half }, length, out);
-        let taken = plan.upload.map_or(0, |upload| upload.next);
-        self.dump_items('w', Shelf { kind, half: plan.other_half() }, taken, out);
-    }
-
-    fn dump_items(&self, letter: char, shelf: Shelf, end: u16, out: &mut Vec<u8>) {
-        for index in 0..end {
-            print(out, format_args!("{letter} {} {index} ", shelf.kind));
-            print_hex(shelf.bytes(&self.store, index), out);
-            out.push(b'\n');
-        }
-    }
-}
-
-/// Sets a number of the state; the field and index are known to fit.
-fn poke(state: &mut State, poked: u8, index: u8, value: u32) {
-    let index = usize::from(index);
-    match poked {
-        field::LENGTH => state.plans[index].length = value as u16,
-        field::NUMBER => state.plans[index].number = value,
-        field::HALF => state.plans[index].half = (value & 1) as u8,
-        field::RUNNING => {
-            let upload = &mut state.plans[index].upload;
-            *upload = (value != 0).then(|| upload.unwrap_or_default());
-        }
-        field::SYSTEM..=field::REPEATS => {
-            if let Some(upload) = &mut state.plans[index].upload {
-                poke_upload(upload, poked, value);
-            }
-        }
-        field::CURRENT => state.current = value as u16,
-        field::BEGUN => state.begun = value != 0,
-        field::JUMP_COUNT => state.jump_counts[index] = value as u16,
-        _ => {}
-    }
-}
-
-fn poke_upload(upload: &mut Upload, poked: u8, value: u32) {
-    match poked {
-        field::SYSTEM => upload.station.system = value as u8,
-        field::COMPONENT => upload.station.component = value as u8,
-        field::COUNT => upload.count = value as u16,
-        field::NEXT => upload.next = value as u16,
-        field::START => upload.start = value,
-        field::REPEATS => upload.repeats = value as u8,
-        _ => {}
-    }
-}
-
-fn print(out: &mut Vec<u8>, text: std::fmt::Arguments) {
-    out.write_fmt(text).expect("writing to memory");
-}
-
-fn print_hex(bytes: &[u8], out: &mut Vec<u8>) {
-    const DIGITS: &[u8; 16] = b"0123456789ABCDEF";
-    for byte in bytes {
-        out.push(DIGITS[usize::from(byte >> 4)]);
-        out.push(DIGITS[usize::from(byte & 15)]);
-    }
-}
-
 #[cfg(test)]
 mod tests {
     use super::*;
 
-    fn played(script: &[u8]) -> String {
-        let mut out = Vec::new();
-        play(&mut &script[..], &mut out, Fault::None).unwrap();
-        String::from_utf8(out).unwrap()
-    }
-
-    fn bytes(records: &[Record]) -> Vec<u8> {
-        let mut out = Vec::new();
-        records.iter().for_each(|record| record.write(&mut out));
-        out
-    }
-
-    fn bytes_of(record: &Record) -> Vec<u8> {
-        bytes(std::slice::from_ref(record))
-    }
-
-    #[test]
-    fn ends() {
-        let dump = Record::of(record::DUMP);
-        let full = played(&bytes_of(&dump));
-        assert!(full.starts_with("D 0\nk 0 0 0 0 0\nu 0 -\n"));
-        assert!(full.ends_with("c 0 0 0 0 0 0 0 0 0 0 0 0 0 0 0 0 0\n"));
-        assert_eq!(played(&[]), "");
-        assert_eq!(played(&bytes(&[Record::of(record::END), dump.clone()])), "");
-        assert_eq!(played(&bytes_of(&dump)[..23]), "? cut\n");
-        let write = Record { payload: vec![1; 3], ..Record::of(record::WRITE) };
-        assert_eq!(played(&bytes_of(&write)[..26]), "? cut\n");
-    }
-
-    #[test]
-    fn bad_records() {
-        let of = Record::of;
-        let bad = [
-            of(10),
-            of(255),
-            Record { payload: vec![0; 301], ..of(record::MESSAGE) },
-            Record { store: 26_881, ..of(record::DONE) },
-            Record { reply: 65, ..of(record::TIMER) },
-            Record { a: 26_880, payload: vec![0], ..of(record::WRITE) },
-            Record { a: u32::MAX, payload: vec![0], ..of(record::WRITE) },
-            Record { b: [0, 0, 0, 0, 13], ..of(record::POKE) },
-            Record { b: [3, 0, 0, 0, 9], ..of(record::POKE) },
-            Record { b: [1, 0, 0, 0, 10], ..of(record::POKE) },
-            Record { b: [15, 0, 0, 0, 12], ..of(record::POKE) },
-        ];
-        for record in bad {
-            let kind = record.kind;
-            let script = bytes(&[record, of(record::DUMP)]);
-            assert_eq!(played(&script), format!("? {kind}\n"));
-        }
-    }
-
-    #[test]
-    fn snap_compare_write() {
-        let of = Record::of;
-        let write = |a, byte| Record { a, payload: vec![byte], ..of(record::WRITE) };
-        let script = [
-            Record { b: [7, 0, 0, 0, 0], ..of(record::FRESH) },
-            of(record::SNAP),
-            write(26_879, 7),
-            of(record::CMP),
-            write(26_879, 8),
-            of(record::CMP),
-        ];
-        assert_eq!(played(&bytes(&script)), "s 1\ns 0\n");
+    fn next(record: &Record) -> Next {
+        read_record(&mut &script_bytes([record])[..]).unwrap()
     }
 
     #[test]
@@ -469,12 +257,85 @@ mod tests {
             b: [1, 2, 3, 4, 5],
             a: 44,
             clock: 4_294_967_295,
-            store: 26_752,
+            store: 5_632,
             reply: 54,
             payload: vec![9, 8, 7],
         };
-        let script = bytes_of(&record);
-        assert_eq!(script.len(), HEADER_BYTES + 3);
-        assert_eq!(read_record(&mut &script[..]).unwrap(), Next::Record(record));
+        assert_eq!(script_bytes([&record]).len(), HEADER_BYTES + 3);
+        assert_eq!(next(&record), Next::Record(record));
+    }
+
+    /// A WRITE of so many bytes.
+    fn write(written: u8, kind: u8, at: u32, len: usize) -> Record {
+        Record::host_write(written, kind, at, vec![0; len])
+    }
+
+    #[test]
+    fn records_that_cannot_be_played() {
+        let of = Record::of;
+        let bad = [
+            of(10),
+            of(17),
+            of(19),
+            of(255),
+            Record { payload: vec![0; 301], ..of(record::MESSAGE) },
+            Record { store: 5_665, ..of(record::DONE) },
+            Record { store: 5_665, ..of(record::POKE) },
+            Record { reply: 65, ..of(record::TIMER) },
+            Record { b: [0, 0, 0, 0, 1], ..of(record::FRESH) },
+            Record::about(record::SNAP, 2),
+            Record::about(record::CMP, 2),
+            Record::poke(13, 0, 0),
+            Record::poke(9, 3, 0),
+            Record::poke(10, 1, 0),
+            Record::poke(12, 15, 0),
+            Record::moving(26_881, 0),
+            Record::moving(0, 5_665),
+            write(target::WORDS, 0, 0, 3),
+            write(target::WORDS, 0, 5_664, 4),
+            write(target::WORDS, 0, 5_663, 8),
+            write(target::WORDS, 0, 5_665, 0),
+            write(target::WORDS, 0, u32::MAX, 4),
+            write(target::PLAN, 0, 0, 36),
+            write(target::PLAN, 0, 256, 32),
+            write(target::OTHER_HALF, 1, 63, 64),
+            write(target::OTHER_HALF, 2, 33, 0),
+            write(target::PLAN, 3, 0, 0),
+            write(target::OLD, 0, 26_880, 1),
+            write(target::OLD, 0, u32::MAX, 1),
+            write(4, 0, 0, 4),
+            write(255, 0, 0, 4),
+        ];
+        for record in bad {
+            assert_eq!(next(&record), Next::Bad(record.kind), "{record:?}");
+        }
+    }
+
+    #[test]
+    fn records_that_just_can_be_played() {
+        let good = [
+            Record { store: 5_664, reply: 64, ..Record::of(record::DONE) },
+            Record::about(record::SNAP, 1),
+            Record::about(record::CMP, 1),
+            Record::moving(26_880, 5_664),
+            write(target::WORDS, 9, 5_663, 4),
+            write(target::WORDS, 0, 5_664, 0),
+            write(target::PLAN, 0, 247, 288),
+            write(target::OTHER_HALF, 1, 63, 32),
+            write(target::OTHER_HALF, 2, 32, 0),
+            write(target::OLD, 9, 26_880 - 3, 3),
+        ];
+        for record in good {
+            assert_eq!(next(&record), Next::Record(record));
+        }
+    }
+
+    #[test]
+    fn a_header_is_judged_before_its_payload_is_there() {
+        let mut bytes = script_bytes([&write(target::WORDS, 0, 0, 5)]);
+        assert_eq!(read_record(&mut &bytes[..25]).unwrap(), Next::Bad(record::WRITE));
+        bytes[6] = 4;
+        assert_eq!(read_record(&mut &bytes[..25]).unwrap(), Next::Cut);
+        assert_eq!(read_record(&mut &bytes[..23]).unwrap(), Next::Cut);
     }
 }

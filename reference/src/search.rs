@@ -5,7 +5,6 @@ use crate::items::{judge, read, whole, Reading, Standing, DO_JUMP};
 use crate::layout::Item;
 use crate::limits::*;
 use crate::state::State;
-use crate::store::Shelf;
 
 /// The answer to "command done". The first number is the item's; amounts are
 /// bit patterns of 32-bit floats.
@@ -23,9 +22,9 @@ pub enum Command {
 
 /// Answers the next command and moves the state on to it. Finished and Stuck
 /// leave the state unchanged.
-pub fn next_command(state: &mut State, store: &[u8], fault: Fault) -> Command {
+pub fn next_command(state: &mut State, store: &[u32], fault: Fault) -> Command {
     let length = state.plans[FLIGHT].length;
-    let shelf = Shelf { kind: FLIGHT, half: state.plans[FLIGHT].half };
+    let shelf = state.plan_shelf(FLIGHT).with(fault);
     let mut jump_counts = state.jump_counts;
     let mut followed = 0;
     let mut at = state.current + u16::from(state.begun);
@@ -113,13 +112,12 @@ mod tests {
         Item { params: [first.to_bits(), second.to_bits(), 0, 0], ..nav(command) }
     }
 
-    fn planned(items: &[Item]) -> (State, Vec<u8>) {
-        let mut store = vec![0; STORE_BYTES];
-        let shelf = Shelf { kind: FLIGHT, half: 0 };
-        for (index, item) in items.iter().enumerate() {
-            shelf.put(&mut store, index as u16, &item.to_bytes());
-        }
+    fn planned(items: &[Item]) -> (State, Vec<u32>) {
+        let mut store = vec![0; STORE_WORDS];
         let mut state = State::fresh();
+        for (index, item) in items.iter().enumerate() {
+            state.plan_shelf(FLIGHT).put(&mut store, index as u16, item);
+        }
         state.plans[FLIGHT].length = items.len() as u16;
         (state, store)
     }

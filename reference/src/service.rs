@@ -65,7 +65,7 @@ impl Service {
         Service { state: State::fresh(), fault }
     }
 
-    pub fn message(&mut self, call: &MessageCall, store: &mut [u8], reply: &mut [u8]) -> Returned {
+    pub fn message(&mut self, call: &MessageCall, store: &mut [u32], reply: &mut [u8]) -> Returned {
         if let Err(refusal) = self.refuse(store.len(), reply.len()) {
             return without_reply(refusal);
         }
@@ -82,7 +82,7 @@ impl Service {
         self.write(answer, reply)
     }
 
-    pub fn timer(&mut self, kind: u8, clock: u32, store: &[u8], reply: &mut [u8]) -> Returned {
+    pub fn timer(&mut self, kind: u8, clock: u32, store: &[u32], reply: &mut [u8]) -> Returned {
         if let Err(refusal) = self.refuse(store.len(), reply.len()) {
             return without_reply(refusal);
         }
@@ -93,7 +93,7 @@ impl Service {
         self.write(answer, reply)
     }
 
-    pub fn done(&mut self, store: &[u8]) -> (u8, Command) {
+    pub fn done(&mut self, store: &[u32]) -> (u8, Command) {
         match self.refuse(store.len(), REPLY_BYTES) {
             Err(refusal) => (refusal, Command::Stuck),
             Ok(()) => (outcome::NO_REPLY, next_command(&mut self.state, store, self.fault)),
@@ -103,7 +103,7 @@ impl Service {
     /// The refusals 14, 15 and 10, in this order.
     fn refuse(&self, store_len: usize, reply_len: usize) -> Result<(), u8> {
         let short_buffer = reply_len < REPLY_BYTES;
-        if store_len < STORE_BYTES {
+        if store_len < self.least_store() {
             Err(outcome::SHORT_STORE)
         } else if short_buffer && self.fault.is(Fault::BufferBeforeRange) {
             Err(outcome::SHORT_BUFFER)
@@ -113,6 +113,15 @@ impl Service {
             Err(outcome::SHORT_BUFFER)
         } else {
             Ok(())
+        }
+    }
+
+    /// The fewest words of store that are not too short.
+    fn least_store(&self) -> usize {
+        match self.fault {
+            Fault::ShortAt5632 => STORE_WORDS + 1,
+            Fault::LongAt5631 => STORE_WORDS - 1,
+            _ => STORE_WORDS,
         }
     }
 
@@ -151,7 +160,7 @@ impl Service {
         &mut self,
         call: &MessageCall,
         message: &Message,
-        store: &mut [u8],
+        store: &mut [u32],
     ) -> Option<Message> {
         let sender = call.sender;
         match *message {
@@ -187,6 +196,14 @@ impl Service {
         &mut self.state.plans[usize::from(kind)]
     }
 
+    pub fn plan_shelf(&self, kind: usize) -> Shelf {
+        self.state.plan_shelf(kind).with(self.fault)
+    }
+
+    pub fn upload_shelf(&self, kind: usize) -> Shelf {
+        self.state.upload_shelf(kind).with(self.fault)
+    }
+
     fn count(&mut self, sender: Address, count: u16, kind: u8, clock: u32) -> Message {
         let fault = self.fault;
         let above = count > PLAN_SIZE[usize::from(kind)];
@@ -214,7 +231,7 @@ impl Service {
         Message::RequestInt { seq: 0, to: sender, kind }
     }
 
-    fn item_int(&mut self, sender: Address, item: Item, clock: u32, store: &mut [u8]) -> Message {
+    fn item_int(&mut self, sender: Address, item: Item, clock: u32, store: &mut [u32]) -> Message {
         let kind = item.kind;
         let Some(upload) = self.plan(kind).upload else {
             return ack(sender, result::INVALID_SEQUENCE, kind);
@@ -229,26 +246,26 @@ impl Service {
         }
         if let Err(reason) = verdict {
             self.plan(kind).upload = None;
-            self.use_free_bytes(usize::from(kind), upload.next, store);
+            self.use_free_words(usize::from(kind), upload.next, store);
             return ack(sender, reason, kind);
         }
         self.take(item, upload, clock, store)
     }
 
     /// The place of an item that was not taken into a plan is free.
-    fn use_free_bytes(&self, kind: usize, index: u16, store: &mut [u8]) {
-        if self.fault.is(Fault::FreeBytes) {
-            let shelf = Shelf { kind, half: self.state.plans[kind].other_half() };
-            shelf.put(store, index, &[0x5A; ITEM_BYTES]);
+    fn use_free_words(&self, kind: usize, index: u16, store: &mut [u32]) {
+        if self.fault.is(Fault::FreeWords) {
+            self.upload_shelf(kind).put_words(store, index, [0x5A5A_5A5A; ITEM_WORDS]);
         }
     }
 
     /// The verdict on an item as the upload's next one.
-    fn judge_upload_item(&self, item: &Item, upload: &Upload, store: &[u8]) -> Result<(), u8> {
+    fn judge_upload_item(&self, item: &Item, upload: &Upload, store: &[u32]) -> Result<(), u8> {
         let kind = usize::from(item.kind);
-        let shelf = Shelf { kind, half: self.state.plans[kind].other_half() };
-        let is_jump = item.command == DO_JUMP;
-        let jumps_before = if is_jump { shelf.jumps_before(store, upload.next) } else { 0 };
+        let jumps_before = match item.command {
+            DO_JUMP => self.upload_shelf(kind).jumps_before(store, upload.next),
+            _ => 0,
+        };
         let standing = Standing { kind, number: item.seq, count: upload.count, jumps_before };
         judge(item, &standing, self.fault)
     }
@@ -269,10 +286,10 @@ impl Service {
 
     /// Stores the expected, valid item and requests the next one, or replaces
     /// the plan after the last.
-    fn take(&mut self, item: Item, upload: Upload, clock: u32, store: &mut [u8]) -> Message {
+    fn take(&mut self, item: Item, upload: Upload, clock: u32, store: &mut [u32]) -> Message {
         let kind = usize::from(item.kind);
-        let shelf = Shelf { kind, half: self.state.plans[kind].other_half() };
-        shelf.put(store, upload.next, &self.stored(item).to_bytes());
+        let shelf = self.upload_shelf(kind);
+        shelf.put(store, upload.next, &self.stored(item));
         let next = upload.next + 1;
         if next < upload.count {
             let repeats = if self.fault.is(Fault::RepeatsKept) { upload.repeats } else { 0 };
@@ -282,20 +299,20 @@ impl Service {
         }
         self.plan(item.kind).upload = None;
         if kind == FENCE && !self.uploaded_fence_fits(shelf, upload.count, store) {
-            self.use_free_bytes(kind, upload.next, store);
+            self.use_free_words(kind, upload.next, store);
             return ack(upload.station, result::INVALID, item.kind);
         }
         let number = self.replace(kind, upload.count);
         Message::Ack { to: upload.station, result: result::ACCEPTED, kind: item.kind, number }
     }
 
-    /// The item as it is stored: system, component and current 0.
+    /// The item that is stored: the one sent.
     fn stored(&self, mut item: Item) -> Item {
-        if !self.fault.is(Fault::AddressKept) {
-            item.to = Address::default();
+        if self.fault.is(Fault::AddressKept) {
+            (item.frame, item.autocontinue) = (item.to.system, item.to.component);
         }
-        if !self.fault.is(Fault::CurrentKept) {
-            item.current = 0;
+        if self.fault.is(Fault::CurrentKept) {
+            item.autocontinue = item.current;
         }
         let without_repeat = item.command == DO_JUMP && read(item.params[1]) == Reading::NoValue;
         if without_repeat && self.fault.is(Fault::NanStoredAsOne) {
@@ -304,7 +321,7 @@ impl Service {
         item
     }
 
-    fn uploaded_fence_fits(&self, shelf: Shelf, count: u16, store: &[u8]) -> bool {
+    fn uploaded_fence_fits(&self, shelf: Shelf, count: u16, store: &[u32]) -> bool {
         let items: Vec<Item> = (0..count).map(|index| shelf.item(store, index)).collect();
         fence_fits(&items, self.fault)
     }
@@ -384,16 +401,16 @@ impl Service {
         Message::Count { count, to: sender, kind, number: self.shown_number(index) }
     }
 
-    /// The stored item as of now.
-    fn request_int(&self, sender: Address, seq: u16, kind: u8, store: &[u8]) -> Message {
+    /// The stored item as of now; seq and kind follow from its place.
+    fn request_int(&self, sender: Address, seq: u16, kind: u8, store: &[u32]) -> Message {
         let index = usize::from(kind);
         let plan = &self.state.plans[index];
         if seq >= plan.length {
             return ack(sender, result::INVALID_SEQUENCE, kind);
         }
-        let shelf = Shelf { kind: index, half: plan.half };
         let current = u8::from(index == FLIGHT && seq == self.state.current);
-        Message::ItemInt(Item { to: sender, current, ..shelf.item(store, seq) })
+        let item = self.plan_shelf(index).item(store, seq);
+        Message::ItemInt(Item { to: sender, current, ..item })
     }
 
     fn set_current(&mut self, seq: u16) -> Message {

@@ -38,7 +38,7 @@ impl Writer {
             b: [OWN.system, OWN.component, STATION.system, STATION.component, 0],
             a: message.id(),
             clock: self.clock,
-            store: STORE_BYTES as u32,
+            store: STORE_WORDS as u32,
             reply: REPLY_BYTES as u32,
             payload: message.write().trimmed().to_vec(),
         });
@@ -49,7 +49,7 @@ impl Writer {
             kind: record::TIMER,
             b: [0, 0, 0, 0, kind],
             clock: self.clock,
-            store: STORE_BYTES as u32,
+            store: STORE_WORDS as u32,
             reply: REPLY_BYTES as u32,
             ..Record::default()
         });
@@ -178,7 +178,7 @@ pub fn measure(calls: usize, console: Option<&Path>) -> io::Result<Speed> {
 mod tests {
     use super::*;
     use crate::fault::Fault;
-    use crate::script::play;
+    use crate::player::play;
 
     #[test]
     fn uploads_of_each_kind_complete() {

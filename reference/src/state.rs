@@ -2,6 +2,7 @@
 
 use crate::layout::Address;
 use crate::limits::*;
+use crate::store::Shelf;
 
 /// An upload that runs.
 #[derive(Clone, Copy, Debug, Default, PartialEq, Eq)]
@@ -68,6 +69,16 @@ impl State {
         plans.into_iter().all(|(plan, size)| plan.in_range(size))
             && (self.current == 0 || self.current < self.plans[FLIGHT].length)
             && self.jump_counts.iter().all(|count| *count <= MAX_JUMP_COUNT)
+    }
+
+    /// Where a kind's plan lies.
+    pub fn plan_shelf(&self, kind: usize) -> Shelf {
+        Shelf::new(kind, self.plans[kind].half)
+    }
+
+    /// Where an upload of a kind puts its items.
+    pub fn upload_shelf(&self, kind: usize) -> Shelf {
+        Shelf::new(kind, self.plans[kind].other_half())
     }
 
     /// Item 0 current, not begun, jump counts 0.

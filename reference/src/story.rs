@@ -48,7 +48,7 @@ pub enum Step {
 impl Step {
     /// The call's record, with a whole store and reply buffer lent.
     pub fn record(&self) -> Record {
-        let (store, reply) = (STORE_BYTES as u32, REPLY_BYTES as u32);
+        let (store, reply) = (STORE_WORDS as u32, REPLY_BYTES as u32);
         match self {
             Step::Message { clock, system, message } => Record {
                 kind: record::MESSAGE,

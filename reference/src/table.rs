@@ -5,7 +5,7 @@ use std::collections::HashMap;
 
 use crate::layout::{address, Address, Item};
 use crate::limits::{KINDS, MAX_JUMPS};
-use crate::script::{MAX_PAYLOAD, REPLY_ARRAY, STORE_ARRAY};
+use crate::script::{target, write_fits, MAX_PAYLOAD, OLD_ARRAY, REPLY_ARRAY, STORE_ARRAY};
 
 /// How many tests a value's pattern is put to.
 pub const TESTS: usize = 4;
@@ -43,13 +43,23 @@ pub enum Setting {
         store: u32,
         reply: u32,
     },
+    /// Copies of the store and of the store of bytes.
+    Copies,
     Current(u16),
+    /// A plan: length, number, half.
+    Plan {
+        kind: u8,
+        numbers: [u32; 3],
+    },
     /// A running upload: system, component, count, next, start, repeats.
     Upload {
         kind: u8,
         numbers: [u32; 6],
     },
+    /// A host's write about a target, as call scripts have it.
     Write {
+        written: u8,
+        kind: u8,
         at: u32,
         bytes: Vec<u8>,
     },
@@ -96,6 +106,13 @@ pub enum Call {
         answer: String,
         counts: Option<[u16; MAX_JUMPS]>,
     },
+    /// The move out of so many bytes.
+    Move {
+        old: u32,
+        outcome: u8,
+    },
+    /// Whether the store and the store of bytes are as copied.
+    AsCopied([u8; 2]),
 }
 
 /// What a message or timer call returns; without a reply the id is 0.
@@ -153,9 +170,14 @@ fn read_setting(args: &mut Words) -> Result<Setting, String> {
             store: args.at_most("STORE", STORE_ARRAY)? as u32,
             reply: args.at_most("REPLY", REPLY_ARRAY)? as u32,
         },
+        "a" => Setting::Copies,
         "p" => Setting::Current(args.number("ITEM")?),
+        "k" => args.plan()?,
         "r" => args.upload()?,
-        "w" => args.write()?,
+        "w" => args.write(target::WORDS)?,
+        "h" => args.write(target::PLAN)?,
+        "g" => args.write(target::OTHER_HALF)?,
+        "b" => args.write(target::OLD)?,
         op => return Err(format!("no OP {op} without a WANTED")),
     };
     args.end()?;
@@ -175,6 +197,11 @@ fn read_call(args: &mut Words, wanted: &mut Words) -> Result<Call, String> {
         "v" => Call::Value { pattern: args.pattern("PATTERN")?, results: wanted.results()? },
         "n" => read_lengths(args, wanted)?,
         "d" => read_done(wanted)?,
+        "x" => Call::Move {
+            old: args.at_most("OLD", OLD_ARRAY)? as u32,
+            outcome: wanted.number("OUTCOME")?,
+        },
+        "e" => Call::AsCopied([wanted.number("STORE")?, wanted.number("OLD")?]),
         op => return Err(format!("no OP {op} with a WANTED")),
     };
     args.end()?;
@@ -268,8 +295,19 @@ impl<'a> Words<'a> {
         Ok(address(self.number("SYSTEM")?, self.number("COMPONENT")?))
     }
 
+    fn kind(&mut self) -> Result<u8, String> {
+        Ok(self.at_most("KIND", KINDS - 1)? as u8)
+    }
+
+    fn plan(&mut self) -> Result<Setting, String> {
+        let kind = self.kind()?;
+        let length = self.at_most("LENGTH", usize::from(u16::MAX))? as u32;
+        let numbers = [length, self.number("NUMBER")?, self.at_most("HALF", 1)? as u32];
+        Ok(Setting::Plan { kind, numbers })
+    }
+
     fn upload(&mut self) -> Result<Setting, String> {
-        let kind = self.at_most("KIND", KINDS - 1)? as u8;
+        let kind = self.kind()?;
         let (byte, half) = (usize::from(u8::MAX), usize::from(u16::MAX));
         let numbers = [
             self.at_most("SYSTEM", byte)? as u32,
@@ -282,10 +320,17 @@ impl<'a> Words<'a> {
         Ok(Setting::Upload { kind, numbers })
     }
 
-    fn write(&mut self) -> Result<Setting, String> {
-        let at = self.at_most("OFFSET", STORE_ARRAY)?;
-        let bytes = self.bytes(MAX_PAYLOAD.min(STORE_ARRAY - at))?;
-        Ok(Setting::Write { at: at as u32, bytes })
+    fn write(&mut self, written: u8) -> Result<Setting, String> {
+        let kind = match written {
+            target::PLAN | target::OTHER_HALF => self.kind()?,
+            _ => 0,
+        };
+        let at = self.number("PLACE")?;
+        let bytes = self.bytes(MAX_PAYLOAD)?;
+        if !write_fits(written, kind, at as usize, bytes.len()) {
+            return Err(format!("{at}: cut words or items, or past the end"));
+        }
+        Ok(Setting::Write { written, kind, at, bytes })
     }
 
     /// Bytes in hex, `-` for none.
@@ -453,12 +498,32 @@ mod tests {
         let set = |text: &str| read_row(1, text).unwrap().act;
         assert_eq!(set("a: o 3 4"), Act::Set(Setting::Own(address(3, 4))));
         assert_eq!(set("a: c 4294967295"), Act::Set(Setting::Clock(u32::MAX)));
-        assert_eq!(set("a: l 26880 64"), Act::Set(Setting::Lent { store: 26_880, reply: 64 }));
+        assert_eq!(set("a: l 5664 64"), Act::Set(Setting::Lent { store: 5_664, reply: 64 }));
+        assert_eq!(set("a: a"), Act::Set(Setting::Copies));
+        let plan = Setting::Plan { kind: 2, numbers: [33, u32::MAX, 1] };
+        assert_eq!(set("a: k 2 33 4294967295 1"), Act::Set(plan));
         let numbers = [255, 190, 2, 0, 7, 6];
         let upload = Setting::Upload { kind: 1, numbers };
         assert_eq!(set("a: r 1 255 190 2 0 7 6"), Act::Set(upload));
-        let write = Setting::Write { at: 26_878, bytes: vec![1, 2] };
-        assert_eq!(set("a: w 26878 0102"), Act::Set(write));
+    }
+
+    #[test]
+    fn writes() {
+        let write = |text: &str| match read_row(1, text).unwrap().act {
+            Act::Set(Setting::Write { written, kind, at, bytes }) => (written, kind, at, bytes),
+            other => panic!("{other:?}"),
+        };
+        assert_eq!(write("a: w 5663 01020304"), (target::WORDS, 0, 5_663, vec![1, 2, 3, 4]));
+        assert_eq!(write("a: b 26878 0102"), (target::OLD, 0, 26_878, vec![1, 2]));
+        let zeros = "00".repeat(32);
+        assert_eq!(write(&format!("a: h 1 63 {zeros}")), (target::PLAN, 1, 63, vec![0; 32]));
+        assert_eq!(write(&format!("a: g 2 31 {zeros}")), (target::OTHER_HALF, 2, 31, vec![0; 32]));
+    }
+
+    #[test]
+    fn moves() {
+        assert_eq!(call("a: x 26752 > 14"), Call::Move { old: 26_752, outcome: 14 });
+        assert_eq!(call("a: e > 0 1"), Call::AsCopied([0, 1]));
     }
 
     /// Rows that cannot be read, and why.
@@ -487,8 +552,16 @@ mod tests {
         ("a: i 0 2 1 16 3 > 1", "LAST is below FIRST"),
         ("a: n 43 2 1 > 1", "LAST is below FIRST"),
         ("a: n 43 0 301 > 1", "LAST 301: above 300"),
-        ("a: l 26881 54", "STORE 26881: above 26880"),
-        ("a: w 26879 0102", "0102: not at most 1 bytes in hex"),
+        ("a: l 5665 54", "STORE 5665: above 5664"),
+        ("a: k 0 1 1 2", "HALF 2: above 1"),
+        ("a: w 5664 01020304", "5664: cut words or items, or past the end"),
+        ("a: w 0 010203", "0: cut words or items, or past the end"),
+        ("a: h 2 0 01020304", "0: cut words or items, or past the end"),
+        ("a: g 3 0 -", "KIND 3: above 2"),
+        ("a: b 26879 0102", "26879: cut words or items, or past the end"),
+        ("a: x 26881 > 14", "OLD 26881: above 26880"),
+        ("a: x 26752 > 1 2", "2: too much"),
+        ("a: e > 1", "OLD is missing"),
         ("a: v 0x7fc00000 > 7 6 6", "RESULT is missing"),
         ("a: d >", "OUTCOME is missing"),
         ("a: d > 1 fly 0,", "counts is missing"),

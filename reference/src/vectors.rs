@@ -10,10 +10,10 @@ use crate::compare::{describe_record, printed, run_program};
 use crate::fault::Fault;
 use crate::layout::{address, Address, Item, Message, COUNT, ITEM_INT};
 use crate::limits::*;
-use crate::script::{field, record, Record};
+use crate::script::{array, field, record, script_bytes, Record};
 use crate::table::{Act, Call, Reply, Row, Setting, TESTS};
 
-/// What fills the store at a fresh start.
+/// What fills the stores at a fresh start.
 const STORE_FILL: u8 = 0xEE;
 
 /// Each test of a value: the item's kind, command and frame, and which of its
@@ -40,7 +40,7 @@ const USUAL: Host = Host {
     own: address(1, 1),
     sender: address(255, 190),
     clock: 0,
-    store: STORE_BYTES as u32,
+    store: STORE_WORDS as u32,
     reply: REPLY_BYTES as u32,
 };
 
@@ -86,10 +86,8 @@ impl Script<'_> {
     }
 
     pub fn bytes(&self) -> Vec<u8> {
-        let mut bytes = Vec::new();
-        self.steps.iter().for_each(|step| step.record.write(&mut bytes));
-        Record::of(record::END).write(&mut bytes);
-        bytes
+        let end = Record::of(record::END);
+        script_bytes(self.steps.iter().map(|step| &step.record).chain([&end]))
     }
 }
 
@@ -110,9 +108,10 @@ impl Writer {
         self.push(Record { b: [STORE_FILL, 0, 0, 0, 0], ..Record::of(record::FRESH) }, Want::Any);
     }
 
-    fn poke(&mut self, poked: u8, index: u8, value: u32) {
-        let b = [index, 0, 0, 0, poked];
-        self.push(Record { b, a: value, ..Record::of(record::POKE) }, Want::Any);
+    /// Pokes of one field after the other, with the same index.
+    fn poke(&mut self, first: u8, index: u8, values: &[u32]) {
+        let pokes = Record::pokes(first, index, values);
+        pokes.into_iter().for_each(|poke| self.push(poke, Want::Any));
     }
 
     fn set(&mut self, setting: &Setting) {
@@ -124,16 +123,18 @@ impl Writer {
             Setting::Lent { store, reply } => {
                 (self.host.store, self.host.reply) = (*store, *reply);
             }
-            Setting::Current(item) => self.poke(field::CURRENT, 0, u32::from(*item)),
-            Setting::Upload { kind, numbers } => {
-                self.poke(field::RUNNING, *kind, 1);
-                for (poked, number) in (field::SYSTEM..=field::REPEATS).zip(numbers) {
-                    self.poke(poked, *kind, *number);
-                }
+            Setting::Copies => {
+                self.push(Record::about(record::SNAP, array::STORE), Want::Any);
+                self.push(Record::about(record::SNAP, array::OLD), Want::Any);
             }
-            Setting::Write { at, bytes } => {
-                let write = Record { a: *at, payload: bytes.clone(), ..Record::of(record::WRITE) };
-                self.push(write, Want::Any);
+            Setting::Current(item) => self.poke(field::CURRENT, 0, &[u32::from(*item)]),
+            Setting::Plan { kind, numbers } => self.poke(field::LENGTH, *kind, numbers),
+            Setting::Upload { kind, numbers } => {
+                self.poke(field::RUNNING, *kind, &[1]);
+                self.poke(field::SYSTEM, *kind, numbers);
+            }
+            Setting::Write { written, kind, at, bytes } => {
+                self.push(Record::host_write(*written, *kind, *at, bytes.clone()), Want::Any);
             }
         }
     }
@@ -151,6 +152,15 @@ impl Writer {
                 }
             }
             Call::Done { answer, counts } => self.done(answer, counts),
+            Call::Move { old, outcome } => {
+                let moving = Record::moving(*old, self.host.store);
+                self.push(moving, Want::Line(format!("v {outcome}")));
+            }
+            Call::AsCopied([store, old]) => {
+                for (array, same) in [(array::STORE, store), (array::OLD, old)] {
+                    self.push(Record::about(record::CMP, array), Want::Line(format!("s {same}")));
+                }
+            }
         }
     }
 
@@ -295,7 +305,9 @@ fn shares<'a>(steps: &[Step], text: &'a str) -> Vec<Vec<&'a str>> {
     let mut shares: Vec<Vec<&str>> = Vec::with_capacity(steps.len());
     for step in steps {
         let share = match step.record.kind {
-            record::MESSAGE | record::TIMER | record::DONE => lines.next().into_iter().collect(),
+            record::MESSAGE | record::TIMER | record::DONE | record::CMP | record::MOVE => {
+                lines.next().into_iter().collect()
+            }
             record::DUMP => iter::from_fn(|| lines.next_if(|line| of_dump(line))).collect(),
             _ => Vec::new(),
         };
@@ -527,7 +539,7 @@ mod tests {
         let script = Script::of(&rows);
         let found = misses(&script, &[Printed::by_reference(&script)]);
         let words = "line 2: first\n  \
-                     record:    TIMER kind 0 clock 0 store 26752 reply 54\n  \
+                     record:    TIMER kind 0 clock 0 store 5632 reply 54\n  \
                      wanted:    t 12 0 0 -\n  \
                      reference: t 1 0 0 -";
         assert_eq!(found[0].to_string(), words);

@@ -1,4 +1,4 @@
-//! The commands `vectors` and `letter`: their status and what they print.
+//! The commands `vectors`, `moved` and `letter`: their status and what they print.
 
 use std::fs;
 use std::path::PathBuf;
@@ -61,7 +61,7 @@ fn a_table_that_does_not_hold() {
     let table = Scratch::new("other", &TABLE.replace("fly 0", "fly 1"));
     let (status, out, _) = run(&["vectors", "--table", table.name()]);
     assert_eq!(status, Some(1));
-    let shown = "line 3: first\n  record:    DONE store 26752\n  wanted:    d 1 fly 1\n  reference: d 1 fly 0\n";
+    let shown = "line 3: first\n  record:    DONE store 5632\n  wanted:    d 1 fly 1\n  reference: d 1 fly 0\n";
     assert!(out.contains(shown), "{out}");
     assert!(out.ends_with("vectors: 1 of 3 cases differ\n"), "{out}");
 }
@@ -87,6 +87,23 @@ fn what_cannot_be_played() {
     let arguments = ["vectors", "--table", good.name(), "--console", "no such program"];
     assert_eq!(run(&arguments).0, Some(2));
     assert_eq!(run(&["vectors", "--table", "no such table"]).0, Some(2));
+}
+
+const BASE: [&str; 5] =
+    ["moved", "--script", "tests/moved/base.bin", "--lines", "tests/moved/base.exp"];
+
+#[test]
+fn moved_plans() {
+    let (status, out, _) = run(&BASE);
+    assert_eq!(status, Some(0));
+    assert_eq!(out, "moved: 152 lines as before the move\n");
+    let (status, out, _) = run(&[&BASE[..], &["--console", PROGRAM]].concat());
+    assert_eq!(status, Some(1));
+    let shown =
+        "the console answers otherwise, line 1\n  before the move v 1\n  after it no line\n";
+    assert_eq!(out, format!("moved: {shown}"));
+    assert_eq!(run(&[&BASE[..], &["--console", "no such program"]].concat()).0, Some(2));
+    assert_eq!(run(&BASE[..3]).0, Some(2));
 }
 
 #[test]

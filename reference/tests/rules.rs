@@ -14,7 +14,7 @@ const OTHER: Address = address(254, 190);
 /// A service with store and reply buffer of the least lengths.
 struct Drone {
     service: Service,
-    store: Vec<u8>,
+    store: Vec<u32>,
     reply: Vec<u8>,
     clock: u32,
 }
@@ -23,7 +23,7 @@ impl Drone {
     fn fresh() -> Drone {
         Drone {
             service: Service::fresh(Fault::None),
-            store: vec![0xEE; STORE_BYTES],
+            store: vec![0xEEEE_EEEE; STORE_WORDS],
             reply: vec![0xA5; REPLY_BYTES],
             clock: 0,
         }
@@ -222,7 +222,31 @@ fn param_4_nan_is_kept() {
     drone.upload(0, &[waypoint]);
     let reply = drone.send(OTHER, Message::RequestInt { seq: 0, to: OWN, kind: 0 });
     assert_eq!(reply, Some(Message::ItemInt(Item { to: OTHER, current: 1, ..waypoint })));
-    assert_eq!(drone.store[352 * 38 + 32..352 * 38 + 38], [0, 0, 3, 0, 1, 0]);
+    assert_eq!(drone.store[352 * 8 + 3..352 * 8 + 8], [0x7F80_0001, 0, 0, 0, 0x0103_0010]);
+}
+
+/// Seq and kind follow from the place, whatever words a host writes.
+#[test]
+fn words_that_a_host_wrote() {
+    let mut drone = Drone::fresh();
+    drone.upload(1, &[nav(5000), pair(5003, 1.0, 0.0)]);
+    let place = (352 + 256 + 1) * 8;
+    drone.store[place..place + 8].copy_from_slice(&[1, 2, 3, 4, 5, 6, 7, 0x80FF_FFFE]);
+    let reply = drone.send(STATION, Message::RequestInt { seq: 1, to: OWN, kind: 1 });
+    let item = Item {
+        params: [1, 2, 3, 4],
+        x: 5,
+        y: 6,
+        z: 7,
+        seq: 1,
+        command: 0xFFFE,
+        to: STATION,
+        frame: 0xFF,
+        current: 0,
+        autocontinue: 0x80,
+        kind: 1,
+    };
+    assert_eq!(reply, Some(Message::ItemInt(item)));
 }
 
 #[test]
@@ -323,12 +347,12 @@ fn a_sixteenth_jump_has_no_room() {
 fn refusals_in_order() {
     let mut drone = Drone::fresh();
     let outcome = |drone: &mut Drone, id, payload: &[u8]| drone.raw(STATION, id, payload).outcome;
-    drone.store.truncate(STORE_BYTES - 1);
+    drone.store.truncate(STORE_WORDS - 1);
     drone.reply.truncate(REPLY_BYTES - 1);
     drone.service.state.current = 3;
     assert_eq!(outcome(&mut drone, 300, &[]), 14);
     assert_eq!(drone.service.done(&drone.store), (14, Command::Stuck));
-    drone.store.push(0xEE);
+    drone.store.push(0xEEEE_EEEE);
     assert_eq!(outcome(&mut drone, 300, &[]), 15);
     assert_eq!(drone.service.done(&drone.store), (15, Command::Stuck));
     drone.service.state.current = 0;

@@ -3,8 +3,8 @@
 
 use reference::fault::Fault;
 use reference::generate::{scripts, Script};
+use reference::player::play;
 use reference::random::Random;
-use reference::script::play;
 
 #[test]
 fn d_edges() {
@@ -19,6 +19,16 @@ fn m101() {
 #[test]
 fn m105() {
     prints(include_bytes!("samples/m105.bin"), include_str!("samples/m105.exp"));
+}
+
+#[test]
+fn m106_words() {
+    prints(include_bytes!("samples/m106_words.bin"), include_str!("samples/m106_words.exp"));
+}
+
+#[test]
+fn m106_move() {
+    prints(include_bytes!("samples/m106_move.bin"), include_str!("samples/m106_move.exp"));
 }
 
 fn prints(mut script: &[u8], expected: &str) {

@@ -36,7 +36,8 @@ pub const SIZES: [u16; KINDS] = [256, 64, 32];
 const FIRST: [usize; KINDS] = [0, 256, 320];
 const PLACES: usize = 352;
 pub const ITEM_BYTES: usize = 38;
-pub const STORE_BYTES: usize = 26_752;
+/// Words of the store, eight for each item of both halves.
+pub const STORE_WORDS: usize = 2 * PLACES * 8;
 pub const REPLY_BYTES: usize = 54;
 
 const MOST_JUMPS: usize = 15;
@@ -172,7 +173,7 @@ impl Service {
         Service { plans: [plan; KINDS], current: 0, begun: false, runs: [0; MOST_JUMPS], items }
     }
 
-    /// A message call, lent a store of so many bytes.
+    /// A message call, lent a store of so many words.
     pub fn message(&mut self, call: &Message, store: usize, reply: &mut [u8]) -> Served {
         let reply = match self.admitted(store, reply) {
             Ok(reply) => reply,
@@ -214,7 +215,7 @@ impl Service {
     /// The refusals 14, 15 and 10, in this order, or the part of the reply buffer that is written.
     #[inline(always)]
     fn admitted<'a>(&self, store: usize, reply: &'a mut [u8]) -> Result<Out<'a>, u8> {
-        if store < STORE_BYTES {
+        if store < STORE_WORDS {
             return Err(outcome::SHORT_STORE);
         }
         if !self.in_range() {

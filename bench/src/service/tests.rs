@@ -5,7 +5,7 @@ use super::*;
 const DRONE: Station = Station { system: 1, component: 1 };
 const TABLET: Station = Station { system: 255, component: 190 };
 
-/// A message call that is lent so many bytes: its outcome, and the reply.
+/// A message call that is lent so many words of store and bytes of reply: its outcome, and the reply.
 fn call(
     service: &mut Service,
     id: u32,
@@ -19,7 +19,7 @@ fn call(
     (served.outcome, reply[..served.len].to_vec())
 }
 
-const LENT: (usize, usize) = (STORE_BYTES, REPLY_BYTES);
+const LENT: (usize, usize) = (STORE_WORDS, REPLY_BYTES);
 
 fn upload() -> Upload {
     Upload { station: TABLET, count: 32, next: 0, started: 0, repeats: 0, jumps: 0 }
@@ -29,11 +29,11 @@ fn upload() -> Upload {
 fn refusals_come_in_their_order() {
     let mut service = Service::fresh();
     service.plans[FENCE].length = 65;
-    let (short_store, short_reply) = (STORE_BYTES - 1, REPLY_BYTES - 1);
+    let (short_store, short_reply) = (STORE_WORDS - 1, REPLY_BYTES - 1);
     assert_eq!(call(&mut service, 0, &[], 0, (short_store, short_reply)).0, 14);
-    assert_eq!(call(&mut service, 0, &[], 0, (STORE_BYTES, short_reply)).0, 15);
+    assert_eq!(call(&mut service, 0, &[], 0, (STORE_WORDS, short_reply)).0, 15);
     service.plans[FENCE].length = 64;
-    assert_eq!(call(&mut service, 0, &[], 0, (STORE_BYTES, short_reply)).0, 10);
+    assert_eq!(call(&mut service, 0, &[], 0, (STORE_WORDS, short_reply)).0, 10);
     assert_eq!(call(&mut service, 0, &[], 0, LENT).0, 11);
     assert_eq!(call(&mut service, 42, &[2, 2], 0, LENT).0, 12);
     assert_eq!(call(&mut service, REQUEST_LIST, &[2, 1], 0, LENT).0, 13);
@@ -43,8 +43,8 @@ fn refusals_come_in_their_order() {
         service.timer(3, 0, store, &mut reply[..reply_end])
     };
     assert_eq!(timer(&mut service, short_store, short_reply).outcome, 14);
-    assert_eq!(timer(&mut service, STORE_BYTES, short_reply).outcome, 10);
-    assert_eq!(timer(&mut service, STORE_BYTES, REPLY_BYTES).outcome, 12);
+    assert_eq!(timer(&mut service, STORE_WORDS, short_reply).outcome, 10);
+    assert_eq!(timer(&mut service, STORE_WORDS, REPLY_BYTES).outcome, 12);
 }
 
 #[test]
@@ -80,7 +80,7 @@ fn the_clock_runs_over() {
     let asked = (0, vec![0, 0, 255, 190, RALLY as u8]);
     assert_eq!(call(&mut service, COUNT, &count, 4_294_967_200, LENT), asked);
     for (clock, outcome) in [(153, 1), (4_294_967_199, 1), (154, 0)] {
-        let served = service.timer(RALLY as u8, clock, STORE_BYTES, &mut [0; REPLY_BYTES]);
+        let served = service.timer(RALLY as u8, clock, STORE_WORDS, &mut [0; REPLY_BYTES]);
         assert_eq!(served.outcome, outcome, "at {clock}");
     }
 }

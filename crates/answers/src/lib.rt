@@ -7,13 +7,12 @@ ghost use Rattle.rules.specs.Messages.{station};
 ghost use Rattle.rules.specs.Messages as rules;
 ghost use Rattle.rules.specs.Step.{says};
 ghost use Rattle.answers.specs.Answered.{answerOf, Spoken, Handles, said};
+use limits::NO_REPLY;
 use upload::Effect;
 use upload::Say;
 use upload::Turned;
 
 pub const REPLIED: u8 = 0;
-
-pub const NO_REPLY: u8 = 1;
 
 // The outcome of a call, and the id and the length of the reply that was written.
 pub struct Said {

@@ -18,6 +18,7 @@ use Rattle.call_lists.specs.Corollaries.{Says, Spares, since, uploadedItems}
 use Rattle.call_lists.specs.Laws.Lists.{answers-snoc}
 use Rattle.claims.specs.Demand3.{Got, gotOf, AllRead, stop, call}
 use Rattle.claims.specs.Service.{World, start, shows, Trace, demand-3}
+use Rattle.places.specs.Forms.{Store}
 
 -- ---- one more call
 
@@ -28,7 +29,7 @@ append {z = z} {ds = ds} {hs = hs} (call w c lent lent′ rest b b′ r cs gs v 
 
 -- After the calls `pre` from a fresh start over a store, c is called: the worlds before and after it, and what it gave
 pub record Called (pre : List Call) (c : Call) (v : World) (g : Got) (w : World) : Type 0 where
-  pub store : Bytes
+  pub store : Store
   pub given : List Got
   pub before : Trace (start store) pre given v
   pub made : Trace v (c ∷ []) (g ∷ []) w
@@ -73,7 +74,7 @@ module _ {pre : List Call} {c : Call} {v w : World} {g : Got} (called : Called p
 
 -- While an upload is open, state and store show the plan of its kind that they showed before its COUNT, every byte of every item.
 pub old-plan-stands :
-    {s : Bytes} {pre post : List Call} {gs hs : List Got} {v w : World} → Trace (start s) pre gs v → Trace v post hs w
+    {s : Store} {pre post : List Call} {gs hs : List Got} {v w : World} → Trace (start s) pre gs v → Trace v post hs w
     → {k : ℕ} {o : Station} {n : ℕ} {got : List Bytes} {started repeats : ℕ} (up : Open k o n (pre ++ post) got started repeats) → since up ≡ pre
     → planOf (shows w .shown) k ≡ planOf (shows v .shown) k
 old-plan-stands {s} {pre} {post} {gs} {hs} {v} {w} first more {k} up announced =

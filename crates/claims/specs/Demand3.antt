@@ -20,6 +20,7 @@ use Rattle.call_lists.specs.Uploads.{shownBy, answerTo, hears, letIn, Open, Com
 use Rattle.call_lists.specs.Rules.{never-out-of-range, only-strokes, takes-effect, empties-effect, lets-in, denies}
 use Rattle.call_lists.specs.Laws.Ranged.{Formed, fresh-formed, formed-ranged}
 use Rattle.call_lists.specs.Laws.Kept.{step-kept}
+use Rattle.places.specs.Forms.{Store}
 
 -- what a call gives beside the state: its outcome, its reply's id, length and bytes, and the command
 pub record Got : Type 0 where
@@ -40,22 +41,23 @@ AllRead [] (a ∷ rest) = ⊥
 AllRead (g ∷ gs) [] = ⊥
 AllRead (g ∷ gs) (a ∷ rest) = ReadsBack a (g .id) (g .reply) × AllRead gs rest
 
-module _ (State : Type 0) (freshState : State) (view : State → Bytes → Model) (half : State → ℕ → Bool) (spare : State → Call → ℕ → Bool) where
+-- `Lent c n` says that n of the store's numbers are what call c is lent: as many as the call says, where the store is counted as the rules count it.
+module _ (State : Type 0) (freshState : State) (view : State → Store → Model) (half : State → ℕ → Bool) (spare : State → Call → ℕ → Bool) (Lent : Call → ℕ → Type 0) where
   -- what a call with this result gave, the reply's bytes being the first of the buffer after it
   abbrev pub got : Result State → (buffer : Bytes) → Got
   got r buffer = record { outcome = r .outcome; id = r .id; len = r .len; reply = take (r .len) buffer; command = r .command }
 
   pub record World : Type 0 where
     pub state : State
-    pub store : Bytes
+    pub store : Store
 
   -- A list of calls with what they gave. Each call gets the state and the store as the last one left them, and nobody else writes them meanwhile; it is
   -- lent a front part of the store, and a reply buffer of any content.
   pub data Trace : World → List Call → List Got → World → Type 0 where
     stop : (w : World) → Trace w [] [] w
     call :
-        (w : World) (c : Call) (lent lent′ rest b b′ : Bytes) (r : Result State) (cs : List Call) (gs : List Got) (z : World)
-        → w .store ≡ lent ++ rest → length lent ≡ storeLent c → length b ≡ bufferLent c
+        (w : World) (c : Call) (lent lent′ rest : Store) (b b′ : Bytes) (r : Result State) (cs : List Call) (gs : List Got) (z : World)
+        → w .store ≡ lent ++ rest → Lent c (length lent) → length b ≡ bufferLent c
         → Serves State view half spare c (w .state) lent lent′ b b′ r
         → Trace (record { state = r .state; store = lent′ ++ rest }) cs gs z
         → Trace w (c ∷ cs) (got r b′ ∷ gs) z
@@ -90,23 +92,26 @@ module _ (State : Type 0) (freshState : State) (view : State → Bytes → Model
 
   -- demand 3
   abbrev pub Demand : Type 0
-  Demand = (s : Bytes) (cs : List Call) (gs : List Got) (w : World) → Trace (record { state = freshState; store = s }) cs gs w → Demand3 cs gs w
+  Demand = (s : Store) (cs : List Call) (gs : List Got) (w : World) → Trace (record { state = freshState; store = s }) cs gs w → Demand3 cs gs w
 
   -- ---- what the proof asks of the view: a fresh state shows the fresh model, ranges are the state's own, and a call's part of the store is enough
 
   pub record Shows : Type 0 where
-    pub starts : (s : Bytes) → view freshState s ≡ fresh
-    pub ranges : (st : State) (s s′ : Bytes) → inRange (view st s) ≡ inRange (view st s′)
-    pub front : (st : State) (lent rest : Bytes) → storeWords ≤ length lent → inRange (view st lent) ≡ true → view st (lent ++ rest) ≡ view st lent
+    pub starts : (s : Store) → view freshState s ≡ fresh
+    pub ranges : (st : State) (s s′ : Store) → inRange (view st s) ≡ inRange (view st s′)
+    -- how much of the store is enough
+    pub least : ℕ
+    pub counts : (c : Call) (n : ℕ) → Lent c n → ltb n least ≡ ltb (storeLent c) storeWords
+    pub front : (st : State) (lent rest : Store) → least ≤ length lent → inRange (view st lent) ≡ true → view st (lent ++ rest) ≡ view st lent
 
   module _ (shows : Shows) where
     -- one call from a formed model
-    pub record Stepping (m : Model) (c : Call) (st′ : State) (s′ : Bytes) (g : Got) : Type 0 where
+    pub record Stepping (m : Model) (c : Call) (st′ : State) (s′ : Store) (g : Got) : Type 0 where
       pub after : view st′ s′ ≡ step m c .model
       said : g ≡ gotOf (step m c .answer)
       read : ReadsBack (step m c .answer) (g .id) (g .reply)
 
-    module _ (c : Call) (st : State) (s s′ b b′ : Bytes) (r : Result State) (serves : Serves State view half spare c st s s′ b b′ r) where
+    module _ (c : Call) (st : State) (s s′ : Store) (b b′ : Bytes) (r : Result State) (serves : Serves State view half spare c st s s′ b b′ r) where
       said-by : got r b′ ≡ gotOf (step (view st s) c .answer)
       said-by =
           let bytes = replyBytes (step (view st s) c .answer) in
@@ -114,7 +119,7 @@ module _ (State : Type 0) (freshState : State) (view : State → Bytes → Model
           λ i. record { outcome = serves .outcome i; id = serves .id i; len = serves .len i; reply = reply i; command = serves .command i }
 
       -- what the promise says of the model shown, it says of a model that is shown
-      stepping : (m : Model) → view st s ≡ m → (st′ : State) (s″ : Bytes) → view st′ s″ ≡ step m c .model → Stepping m c st′ s″ (got r b′)
+      stepping : (m : Model) → view st s ≡ m → (st′ : State) (s″ : Store) → view st′ s″ ≡ step m c .model → Stepping m c st′ s″ (got r b′)
       stepping m e st′ s″ after =
           record {
             after = after;
@@ -130,7 +135,7 @@ module _ (State : Type 0) (freshState : State) (view : State → Bytes → Model
     short m (done store) e = rw e
 
     pub one :
-        (m : Model) (c : Call) (st : State) (lent lent′ rest b b′ : Bytes) (r : Result State) → Formed m → view st (lent ++ rest) ≡ m → length lent ≡ storeLent c
+        (m : Model) (c : Call) (st : State) (lent lent′ rest : Store) (b b′ : Bytes) (r : Result State) → Formed m → view st (lent ++ rest) ≡ m → Lent c (length lent)
         → Serves State view half spare c st lent lent′ b b′ r → Stepping m c (r .state) (lent′ ++ rest) (got r b′)
     one m c st lent lent′ rest b b′ r f shown len serves = go (ltb (storeLent c) storeWords) refl
       where
@@ -143,19 +148,19 @@ module _ (State : Type 0) (freshState : State) (view : State → Bytes → Model
             let same = serves .unchanged (ap (λ (x : Stepped). isRefused (x .answer)) (refusal (view st lent))) in
             record {
               after =
-                  ap₂ (λ (x : State) (l : Bytes). view x (l ++ rest)) (same .0) (same .1) ∙ shown ∙ sym (ap (λ (x : Stepped). x .model) (refusal m));
+                  ap₂ (λ (x : State) (l : Store). view x (l ++ rest)) (same .0) (same .1) ∙ shown ∙ sym (ap (λ (x : Stepped). x .model) (refusal m));
               said =
                   said-by c st lent lent′ b b′ r serves
                   ∙ ap (λ (x : Stepped). gotOf (x .answer)) (refusal (view st lent)) ∙ sym (ap (λ (x : Stepped). gotOf (x .answer)) (refusal m));
               read = subst (λ (x : Stepped). ReadsBack (x .answer) (r .id) (take (r .len) b′)) (sym (refusal m)) tt;
             }
         go false t =
-            let long : storeWords ≤ length lent = subst (λ (n : ℕ). storeWords ≤ n) (sym len) (ltb-false (storeLent c) storeWords t) in
+            let long : shows .least ≤ length lent = ltb-false (length lent) (shows .least) (shows .counts c (length lent) len ∙ t) in
             let before : view st lent ≡ m = sym (shows .front st lent rest long ranged) ∙ shown in
             let now : view (r .state) lent′ ≡ step m c .model = serves .model ∙ ap (λ (x : Model). step x c .model) before in
             let kept : inRange (view (r .state) lent′) ≡ true = ap inRange now ∙ formed-ranged (step m c .model) (step-kept m c f) in
             stepping c st lent lent′ b b′ r serves m before (r .state) (lent′ ++ rest)
-            (shows .front (r .state) lent′ rest (subst (λ (n : ℕ). storeWords ≤ n) (sym (serves .long)) long) kept ∙ now)
+            (shows .front (r .state) lent′ rest (subst (λ (n : ℕ). shows .least ≤ n) (sym (serves .long)) long) kept ∙ now)
 
     record Ends (m : Model) (cs : List Call) (gs : List Got) (w : World) : Type 0 where
       model : view (w .state) (w .store) ≡ run m cs

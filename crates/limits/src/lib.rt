@@ -37,7 +37,11 @@ pub const DENIED: u8 = 14;
 
 pub const CANCELLED: u8 = 15;
 
-// The outcome of a call whose state has a number out of its range.
+// Outcomes: no reply; a store that is too short; a state that has a number out of its range.
+pub const NO_REPLY: u8 = 1;
+
+pub const SHORT_STORE: u8 = 14;
+
 pub const OUT_OF_RANGE: u8 = 15;
 
 // The flight commands that other rules name.

@@ -6,7 +6,7 @@ ghost use Rattle.rules.specs.Limits.{rally, sizeOf, firstPlaceOf, itemWords, st
 ghost use Rattle.rules.specs.Words.{lastWord, commandIn};
 ghost use Rattle.rules.specs.Items.{jumpsAmong};
 ghost use Rattle.places.specs.Part.{put};
-ghost use Rattle.places.specs.Forms.{words, offsetOf, itemsIn};
+ghost use Rattle.places.specs.Forms.{words, placeOf, offsetOf, itemsIn};
 ghost use Rattle.places.specs.Stored.{withCommand};
 use limits::FENCE;
 use limits::FLIGHT;
@@ -14,7 +14,7 @@ use limits::ITEM_WORDS;
 use limits::JUMP;
 use limits::RALLY;
 
-const HALF_PLACES: usize = 352;
+const HALF_PLACES: u32 = 352;
 
 // The most items that a plan of a kind has; 0 above the last kind.
 pub fn size_of(kind: u8) -> u16
@@ -39,15 +39,22 @@ fn first_place_of(kind: u8) -> u16
     }
 }
 
+// The item place of a number.
+pub fn item_place(kind: u8, half: bool, n: u16) -> u32
+    ensures { λ r. ⌜ r ≡ placeOf words half kind n ⌝ }
+{
+    let place = first_place_of(kind) as u32 + n as u32;
+    if half {
+        return HALF_PLACES + place;
+    }
+    place
+}
+
 // The store's word at which the item with a number begins.
 pub fn place_at(kind: u8, half: bool, n: u16) -> usize
     ensures { λ r. ⌜ r ≡ offsetOf words half kind n ⌝ }
 {
-    let place = first_place_of(kind) as usize + n as usize;
-    if half {
-        return (HALF_PLACES + place) * ITEM_WORDS;
-    }
-    place * ITEM_WORDS
+    item_place(kind, half, n) as usize * ITEM_WORDS
 }
 
 // The eight words from `at` become an item's; every other word stays.

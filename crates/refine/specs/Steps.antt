@@ -15,7 +15,7 @@ use Rattle.rules.specs.Model.{Model, nextNumber, elapsed, wholeOk, every, inRan
 use Rattle.rules.specs.Calls.{Call, Request, chooses, asksList, announces, clears, acknowledges, asksItem, brings, Heard, refuses, request, expiry, commandDone, isKnown, heard}
 use Rattle.rules.specs.NextCommand.{next, answerOf, advance}
 use Rattle.rules.specs.Step.{refused, orders, isRefused, Stepped, covered, kindOk, act, step}
-use Rattle.rule_laws.specs.Tests.{both, either}
+use Rattle.rule_laws.specs.Tests.{both, either, outside}
 use Rattle.rule_laws.specs.Kinds.{known-below}
 use Rattle.rule_laws.specs.Lists.{at-set}
 use Rattle.rule_laws.specs.Brought.{request-kind}
@@ -183,15 +183,6 @@ module _ (F : Form) (lawful : Lawful F) where
   beside-same : (s : Store) (free : ℕ → Bool) → Beside s free s
   beside-same s free = record { numbers = λ i e. refl; long = refl }
 
-  -- a number outside an item's from `at` is before or after them
-  outside : (at i : ℕ) → (leb at i && ltb i (at + F .width)) ≡ false → (i < at) ⊎ (at + F .width ≤ i)
-  outside at i e = go (leb at i) (ltb i (at + F .width)) refl refl
-    where
-      go : (t u : Bool) → leb at i ≡ t → ltb i (at + F .width) ≡ u → (i < at) ⊎ (at + F .width ≤ i)
-      go false u a b = inl (leb-false at i a)
-      go true false a b = inr (ltb-false i (at + F .width) b)
-      go true true a b = absurd (true≢false (sym (ap₂ _&&_ a b) ∙ e))
-
   module _ (st : State) (s : Store) (long : least F ≤ length s) (ranged : inRange (viewIn F st s) ≡ true) (k : ℕ) (known : isKnown k ≡ true) where
     -- a write at the upload's next place
     written : (r : Run) (item : Item) → planOf st k .upload ≡ Running r → Beside s (inPlace F (not (planOf st k .half)) k (r .next)) (stored F s k (planOf st k) r item)
@@ -205,7 +196,7 @@ module _ (F : Form) (lawful : Lawful F) where
         record {
           numbers = λ i e.
               ⊎-elim (λ (lower : i < at). getD-put-before s at (F .keeps item) fits i lower) (λ (upper : at + F .width ≤ i). getD-put-after s at (F .keeps item) fits i (omega arith))
-              (outside at i e);
+              (outside at (at + F .width) i e);
           long = length-stays F lawful s long (F .keeps item) whole half k (r .next) small below;
         }
 

@@ -9,6 +9,7 @@ ghost use Rattle.refusal.specs.Refusals.{refusalOf, roomRefusal, HeadRea
 use limits::OUT_OF_RANGE;
 use limits::RALLY;
 use limits::REPLY_BYTES;
+use limits::SHORT_STORE;
 use limits::STORE_WORDS;
 use message_table::Head;
 
@@ -19,8 +20,6 @@ const EMPTY_PAYLOAD: u8 = 11;
 const NOT_READ: u8 = 12;
 
 const NOT_FOR_US: u8 = 13;
-
-const SHORT_STORE: u8 = 14;
 
 // A target number that is ours, or 0 for all.
 fn ours_or_all(own: u8, target: u8) -> bool

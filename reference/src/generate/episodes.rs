@@ -3,16 +3,15 @@
 use super::{values, Generator};
 use crate::layout::*;
 use crate::limits::*;
-use crate::script::{field, record, Record, STORE_ARRAY};
+use crate::script::{field, record, Record};
 use crate::state::Upload;
-use crate::store::Shelf;
 
 type Episode = fn(&mut Generator);
 
 const EPISODES: &[(usize, Episode)] = &[
     (24, Generator::small_upload),
     (2, Generator::full_upload),
-    (30, Generator::edge_items),
+    (48, Generator::edge_items),
     (14, Generator::fence_upload),
     (14, Generator::fly),
     (8, Generator::fly_loop),
@@ -25,7 +24,9 @@ const EPISODES: &[(usize, Episode)] = &[
     (4, Generator::poke_number),
     (12, Generator::host_writes_plan),
     (6, Generator::host_writes_upload),
-    (5, Generator::download),
+    (3, Generator::write_ends),
+    (14, Generator::move_plans),
+    (5, Generator::any_download),
     (6, Generator::clears),
     (8, Generator::random_messages),
     (2, Generator::restart),
@@ -49,7 +50,7 @@ impl Generator {
     }
 
     /// A dump, less often if it is long.
-    fn maybe_dump(&mut self, of: usize, outof: usize) {
+    pub(super) fn maybe_dump(&mut self, of: usize, outof: usize) {
         let shown = |kind| self.length(kind) + self.upload(kind).map_or(0, |upload| upload.next);
         let long = (0..KINDS).map(shown).sum::<u16>() >= SMALL_DUMP;
         if self.random.chance(of, outof) && (!long || self.random.chance(1, 10)) {
@@ -58,7 +59,7 @@ impl Generator {
     }
 
     /// Starts an upload of planned items, mostly from the station that uploads.
-    fn start(&mut self, kind: usize, items: Vec<Item>) {
+    pub(super) fn start(&mut self, kind: usize, items: Vec<Item>) {
         let station = match self.random.chance(1, 12) {
             true => self.any_station(),
             false => self.uploader(kind),
@@ -69,7 +70,7 @@ impl Generator {
 
     /// Goes on with an upload to its end; every `calm` calls or so something
     /// else happens.
-    fn go_on(&mut self, kind: usize, calm: usize, harsh: bool) {
+    pub(super) fn go_on(&mut self, kind: usize, calm: usize, harsh: bool) {
         while self.more() && self.upload(kind).is_some() {
             if !self.random.chance(1, calm) {
                 self.send_expected(kind);
@@ -84,7 +85,7 @@ impl Generator {
     }
 
     /// Uploads a plan with little in between.
-    fn upload_plan(&mut self, kind: usize, items: Vec<Item>) {
+    pub(super) fn upload_plan(&mut self, kind: usize, items: Vec<Item>) {
         self.start(kind, items);
         self.go_on(kind, 12, false);
     }
@@ -174,7 +175,7 @@ impl Generator {
         self.search_some(14);
     }
 
-    fn search_some(&mut self, most: usize) {
+    pub(super) fn search_some(&mut self, most: usize) {
         for _ in 0..self.random.within(1, most) {
             match self.random.below(16) {
                 0 => self.any_set_current(FLIGHT),
@@ -241,9 +242,10 @@ impl Generator {
         let kind = self.any_kind();
         self.snap();
         for _ in 0..self.random.within(2, 6) {
-            match self.random.below(4) {
+            match self.random.below(6) {
                 0 => self.refused_timer(),
                 1 => self.refused_done(),
+                2 => self.short_move(),
                 _ => self.refused_message(kind),
             }
         }
@@ -264,7 +266,7 @@ impl Generator {
     fn refused_done(&mut self) {
         let mut record = Record { store: self.store_length(), ..Record::of(record::DONE) };
         if self.random.chance(3, 4) {
-            record.store = STORE_BYTES as u32 - 1;
+            record.store = STORE_WORDS as u32 - 1;
         }
         self.emit(record);
     }
@@ -305,7 +307,7 @@ impl Generator {
         self.maybe_dump(1, 2);
     }
 
-    fn bad_upload(&mut self, size: u16) -> Upload {
+    pub(super) fn bad_upload(&mut self, size: u16) -> Upload {
         let good = self.good_upload(size);
         match self.random.below(4) {
             0 => Upload { count: 0, next: 0, ..good },
@@ -315,7 +317,7 @@ impl Generator {
         }
     }
 
-    fn good_upload(&mut self, size: u16) -> Upload {
+    pub(super) fn good_upload(&mut self, size: u16) -> Upload {
         let most = self.random.pick(&[4, size]);
         let count = self.random.within(1, usize::from(most)) as u16;
         Upload {
@@ -330,12 +332,13 @@ impl Generator {
     fn calls_in_bad_state(&mut self, kind: usize) {
         self.snap();
         for _ in 0..self.random.within(1, 5) {
-            match self.random.below(6) {
+            match self.random.below(8) {
                 0 => self.dump(),
                 1 => self.any_timer(kind),
                 2 => self.done(),
                 3 => self.refused_message(kind),
                 4 => self.refused_timer(),
+                5 | 6 => self.move_in_bad_state(),
                 _ => self.any_request(kind),
             }
         }
@@ -343,7 +346,7 @@ impl Generator {
     }
 
     /// Pokes the progress back into its range, if need be.
-    fn ensure_range(&mut self) {
+    pub(super) fn ensure_range(&mut self) {
         if !self.state().in_range() {
             self.poke(field::CURRENT, 0, 0);
         }
@@ -387,17 +390,14 @@ impl Generator {
         let upload = self.good_upload(size);
         let items = values::plan(&mut self.random, kind, upload.count, 2);
         self.poke_upload(kind, Some(upload));
-        let shelf = self.upload_shelf(kind);
+        let shelf = self.state().upload_shelf(kind);
         if self.random.chance(2, 3) {
-            for index in 0..upload.next {
-                let item = Item { current: 0, ..items[usize::from(index)] };
-                self.write(shelf.offset(index), &item.to_bytes());
-            }
+            self.write_items(shelf, 0, &items[..usize::from(upload.next)]);
         }
         self.planned[kind] = items;
     }
 
-    fn poke_progress(&mut self) {
+    pub(super) fn poke_progress(&mut self) {
         let length = usize::from(self.length(FLIGHT));
         let current = self.random.below(length.max(1)) as u32;
         self.poke(field::CURRENT, 0, current);
@@ -418,104 +418,13 @@ impl Generator {
         self.any_set_current(kind);
     }
 
-    /// A host writes into the plan; the flight plan is then searched.
-    fn host_writes_plan(&mut self) {
-        let kind = self.random.weighted(&[(6, FLIGHT), (1, FENCE), (1, RALLY)]);
-        if self.length(kind) == 0 {
-            let items = values::plan(&mut self.random, kind, 6, 2);
-            self.upload_plan(kind, items);
-        }
-        let length = self.length(kind);
-        let shelf = self.plan_shelf(kind);
-        for _ in 0..self.random.within(1, 3) {
-            if length > 0 {
-                let near = usize::from(self.state().current).min(usize::from(length) - 1);
-                let any = self.random.below(usize::from(length));
-                let index = self.random.pick(&[near, any]) as u16;
-                self.write_over(shelf, index, length);
-            }
-        }
-        if self.random.chance(1, 4) {
-            self.write_many_jumps(shelf, length);
-        }
-        if self.random.chance(1, 8) {
-            self.write(STORE_BYTES, &[0x77; STORE_ARRAY - STORE_BYTES]);
-        }
-        for _ in 0..3 {
-            self.any_set_current(FLIGHT);
-            self.done();
-        }
-        self.search_some(4);
-        self.any_request(kind);
-    }
-
-    /// Writes over an item: whole, one field of it, or random bytes.
-    fn write_over(&mut self, shelf: Shelf, index: u16, count: u16) {
-        let at = shelf.offset(index);
-        match self.random.below(4) {
-            0 => {
-                let item = values::edge_item(&mut self.random, shelf.kind, index, count);
-                self.write(at, &item.to_bytes());
-            }
-            1 => {
-                let item = values::valid_item(&mut self.random, shelf.kind, index, count);
-                self.write(at, &item.to_bytes());
-            }
-            2 => {
-                let mut item = shelf.item(&self.mirror.store, index);
-                values::spoil(&mut self.random, &mut item, count);
-                self.write(at, &item.to_bytes());
-            }
-            _ => {
-                let offset = self.random.below(ITEM_BYTES);
-                let most = (ITEM_BYTES - offset).min(4);
-                let bytes = self.random.word().to_le_bytes();
-                let len = self.random.within(1, most);
-                self.write(at + offset, &bytes[..len]);
-            }
-        }
-    }
-
-    /// Writes jumps over the front of the plan, more than it may have.
-    fn write_many_jumps(&mut self, shelf: Shelf, length: u16) {
-        let jumps = length.min(self.random.within(14, 18) as u16);
-        if shelf.kind != FLIGHT || length < 3 {
-            return;
-        }
-        for index in 0..jumps {
-            let target = if index == length - 1 { 0 } else { length - 1 };
-            let repeat = self.random.pick(&[0, 0, 0x3F80_0000]);
-            let item = values::jump_to(&mut self.random, index, usize::from(target), repeat);
-            self.write(shelf.offset(index), &item.to_bytes());
-        }
-    }
-
-    /// A host writes into the items taken by a running upload.
-    fn host_writes_upload(&mut self) {
-        let kind = self.random.weighted(&[(3, FLIGHT), (4, FENCE), (1, RALLY)]);
-        if self.upload(kind).is_none() {
-            let count = self.random.within(3, 9) as u16;
-            let items = values::plan(&mut self.random, kind, count, 1);
-            self.start(kind, items);
-        }
-        for _ in 0..self.random.within(1, 5) {
-            self.send_expected(kind);
-        }
-        for _ in 0..self.random.within(1, 2) {
-            let Some(upload) = self.upload(kind) else { return };
-            if upload.next > 0 {
-                let index = self.random.below(usize::from(upload.next)) as u16;
-                let shelf = self.upload_shelf(kind);
-                self.write_over(shelf, index, upload.count);
-            }
-        }
-        self.maybe_dump(1, 2);
-        self.go_on(kind, 10, false);
+    fn any_download(&mut self) {
+        let kind = self.any_kind();
+        self.download(kind);
     }
 
     /// Reads a plan whole, and past its end.
-    fn download(&mut self) {
-        let kind = self.any_kind();
+    pub(super) fn download(&mut self, kind: usize) {
         let station = self.any_station();
         self.send_request_list(station, kind as u8);
         for seq in 0..=self.length(kind).min(20) {

@@ -1,19 +1,24 @@
 //! Hostile call lists by seed. The generator plays its own records, so that it
 //! knows which uploads run and can go on with them.
 //!
-//! After an expected invalid item, or a last item whose fence fails, the bytes
+//! After an expected invalid item, or a last item whose fence fails, the words
 //! of its place are free. The generator remembers such places and shows none of
 //! them: it writes over them before a POKE, and leaves CMP out.
 
+mod endings;
 mod episodes;
+mod host;
+mod moves;
 mod noise;
 mod values;
 
 use crate::fault::Fault;
-use crate::layout::{address, Address, Item, Message, ITEM_INT, REQUEST_INT};
+use crate::layout::{address, Address, Item, Message};
 use crate::limits::*;
+use crate::player::Player;
 use crate::random::Random;
-use crate::script::{field, record, Player, Record, MAX_PAYLOAD, REPLY_ARRAY, STORE_ARRAY};
+use crate::script::{array, field, record, script_bytes, Record};
+use crate::script::{MAX_PAYLOAD, REPLY_ARRAY, STORE_ARRAY};
 use crate::state::{State, Upload};
 use crate::store::Shelf;
 
@@ -44,8 +49,7 @@ pub struct Script {
 
 impl Script {
     pub fn bytes(&self) -> Vec<u8> {
-        let mut bytes = Vec::new();
-        self.records.iter().for_each(|record| record.write(&mut bytes));
+        let mut bytes = script_bytes(&self.records);
         bytes.extend(&self.ending);
         bytes
     }
@@ -71,7 +75,7 @@ pub fn scripts(seed: u64, calls: usize) -> impl Iterator<Item = Script> {
     let rest = calls % CALLS_PER_SCRIPT;
     let sizes = std::iter::repeat_n(CALLS_PER_SCRIPT, full).chain((rest > 0).then_some(rest));
     sizes.enumerate().map(move |(number, size)| {
-        let mixed = Random::new(seed).draw() ^ Random::new(number as u64).draw();
+        let mixed = Random::new(seed).draw() ^ number as u64;
         Generator::new(mixed).script(size)
     })
 }
@@ -87,9 +91,9 @@ struct Generator {
     own: Address,
     /// The items that the running upload of each kind is to send.
     planned: [Vec<Item>; KINDS],
-    /// Places whose bytes are free.
+    /// Places whose words are free.
     free: Vec<bool>,
-    /// True if the copy and the store differ in no free bytes.
+    /// True if the copy and the store differ in no free words.
     comparable: bool,
 }
 
@@ -135,19 +139,21 @@ impl Generator {
             self.calls += 1;
         }
         let before = self.state().clone();
+        let mut lines = Vec::new();
         let printed_only = matches!(record.kind, record::DUMP | record::CMP);
         if !printed_only {
-            self.mirror.record(&record, &mut Vec::new());
+            self.mirror.record(&record, &mut lines);
         }
         match record.kind {
             record::MESSAGE => self.note_item(&before, &record),
-            record::WRITE => self.note_write(record.a as usize, record.payload.len()),
+            record::WRITE => self.note_write(&record),
+            record::MOVE if lines == b"v 1\n" => self.note_move(),
             _ => {}
         }
         self.records.push(record);
     }
 
-    /// Notes what an expected item does to the bytes of its place.
+    /// Notes what an expected item does to the words of its place.
     fn note_item(&mut self, before: &State, record: &Record) {
         let Some(Message::ItemInt(item)) = Message::read(record.a, &record.payload) else {
             return;
@@ -162,18 +168,29 @@ impl Generator {
         }
         let reply = Message::read(returned.id, &self.mirror.reply[..returned.len]);
         let refused = matches!(reply, Some(Message::Ack { result, .. }) if result != 0);
-        let shelf = Shelf { kind: usize::from(item.kind), half: plan.other_half() };
-        let place = shelf.place(item.seq);
+        let place = before.upload_shelf(usize::from(item.kind)).place(item.seq);
         self.comparable &= !refused && !self.free[place];
         self.free[place] = refused;
     }
 
     /// Notes which places a host's write settles.
-    fn note_write(&mut self, at: usize, len: usize) {
-        for place in at / ITEM_BYTES..self.free.len().min((at + len).div_ceil(ITEM_BYTES)) {
+    fn note_write(&mut self, record: &Record) {
+        let words = self.mirror.written_words(record);
+        for place in words.start / ITEM_WORDS..self.free.len().min(words.end.div_ceil(ITEM_WORDS)) {
+            let item = place * ITEM_WORDS..(place + 1) * ITEM_WORDS;
             self.comparable &= !self.free[place];
-            let covered = at <= place * ITEM_BYTES && (place + 1) * ITEM_BYTES <= at + len;
-            self.free[place] &= !covered;
+            self.free[place] &= item.start < words.start || words.end < item.end;
+        }
+    }
+
+    /// Notes that a move settles the places of the plans.
+    fn note_move(&mut self) {
+        for kind in 0..KINDS {
+            let shelf = self.state().plan_shelf(kind);
+            for place in (0..self.length(kind)).map(|index| shelf.place(index)) {
+                self.comparable &= !self.free[place];
+                self.free[place] = false;
+            }
         }
     }
 
@@ -187,14 +204,6 @@ impl Generator {
 
     fn length(&self, kind: usize) -> u16 {
         self.state().plans[kind].length
-    }
-
-    fn plan_shelf(&self, kind: usize) -> Shelf {
-        Shelf { kind, half: self.state().plans[kind].half }
-    }
-
-    fn upload_shelf(&self, kind: usize) -> Shelf {
-        Shelf { kind, half: self.state().plans[kind].other_half() }
     }
 
     fn any_kind(&mut self) -> usize {
@@ -244,8 +253,8 @@ impl Generator {
 
     /// A length of the store that suffices.
     fn store_length(&mut self) -> u32 {
-        let longer = self.random.within(STORE_BYTES, STORE_ARRAY);
-        self.random.weighted(&[(8, STORE_BYTES), (1, STORE_ARRAY), (1, longer)]) as u32
+        let longer = self.random.within(STORE_WORDS, STORE_ARRAY);
+        self.random.weighted(&[(8, STORE_WORDS), (1, STORE_ARRAY), (1, longer)]) as u32
     }
 
     /// A length of the reply buffer that suffices.
@@ -349,11 +358,16 @@ impl Generator {
         self.emit(Record::of(record::SNAP));
     }
 
-    /// Compares with the copy, if free bytes cannot decide the answer.
+    /// Compares with the copy, if free words cannot decide the answer.
     fn compare(&mut self) {
         if self.comparable {
             self.emit(Record::of(record::CMP));
         }
+    }
+
+    /// A SNAP or CMP of the old store.
+    fn of_old_store(&mut self, kind: u8) {
+        self.emit(Record::about(kind, array::OLD));
     }
 
     fn fresh(&mut self) {
@@ -364,14 +378,8 @@ impl Generator {
         self.emit(Record { b: [fill, 0, 0, 0, 0], ..Record::of(record::FRESH) });
     }
 
-    fn write(&mut self, at: usize, bytes: &[u8]) {
-        let record = Record::of(record::WRITE);
-        self.emit(Record { a: at as u32, payload: bytes.to_vec(), ..record });
-    }
-
     fn poke(&mut self, poked: u8, index: usize, value: u32) {
-        let b = [index as u8, 0, 0, 0, poked];
-        self.emit(Record { b, a: value, ..Record::of(record::POKE) });
+        self.emit(Record::poke(poked, index as u8, value));
     }
 
     fn poke_length(&mut self, kind: usize, length: u16) {
@@ -389,76 +397,49 @@ impl Generator {
         self.settle_free_places(kind);
         let Upload { station, count, next, start, repeats } = upload.unwrap_or_default();
         let values = [
-            (field::RUNNING, u32::from(upload.is_some())),
-            (field::SYSTEM, u32::from(station.system)),
-            (field::COMPONENT, u32::from(station.component)),
-            (field::COUNT, u32::from(count)),
-            (field::NEXT, u32::from(next)),
-            (field::START, start),
-            (field::REPEATS, u32::from(repeats)),
+            u32::from(upload.is_some()),
+            u32::from(station.system),
+            u32::from(station.component),
+            u32::from(count),
+            u32::from(next),
+            start,
+            u32::from(repeats),
         ];
-        for (poked, value) in values {
-            self.poke(poked, kind, value);
-        }
+        let pokes = Record::pokes(field::RUNNING, kind as u8, &values);
+        pokes.into_iter().for_each(|poke| self.emit(poke));
     }
 
-    /// Writes an item over every place of the kind whose bytes are free.
+    /// Writes an item over every place of the kind whose words are free.
     fn settle_free_places(&mut self, kind: usize) {
         for half in [0, 1] {
-            let shelf = Shelf { kind, half };
+            let shelf = Shelf::new(kind, half);
             for index in 0..PLAN_SIZE[kind] {
                 if self.free[shelf.place(index)] {
                     let item = values::valid_item(&mut self.random, kind, index, 2);
-                    self.write(shelf.offset(index), &item.to_bytes());
+                    self.write_items(shelf, index, &[item]);
                 }
             }
         }
-    }
-
-    /// Bytes that end a script: a record 0, nothing, or what cannot be played.
-    fn ending(&mut self) -> Vec<u8> {
-        let of = Record::of;
-        let records = match self.random.below(24) {
-            0 => vec![of(self.random.within(10, 15) as u8), of(record::DUMP)],
-            1 => vec![of(self.random.within(32, 255) as u8), of(record::DUMP)],
-            2 => vec![Record { payload: vec![0; MAX_PAYLOAD + 1], ..of(record::MESSAGE) }],
-            3 => vec![Record { store: STORE_ARRAY as u32 + 1, ..of(record::DONE) }],
-            4 => vec![Record { reply: REPLY_ARRAY as u32 + 1, ..of(record::TIMER) }],
-            5 => vec![Record { a: STORE_ARRAY as u32, payload: vec![0], ..of(record::WRITE) }],
-            6 => vec![Record { b: [0, 0, 0, 0, 13], ..of(record::POKE) }],
-            7 => vec![Record { b: [3, 0, 0, 0, 1], ..of(record::POKE) }],
-            8 => vec![Record { b: [15, 0, 0, 0, 12], ..of(record::POKE) }],
-            9 => vec![of(record::END), of(record::DUMP)],
-            10 => vec![],
-            11..=14 => return self.cut_record(),
-            _ => vec![of(record::END)],
-        };
-        let mut bytes = Vec::new();
-        records.iter().for_each(|record| record.write(&mut bytes));
-        bytes
-    }
-
-    /// A record that the end of input cuts, in its header or its payload.
-    fn cut_record(&mut self) -> Vec<u8> {
-        let payload = vec![1; self.random.within(1, 60)];
-        let id = self.random.pick(&[ITEM_INT, REQUEST_INT]);
-        let sender = self.any_station();
-        let mut bytes = Vec::new();
-        self.message(sender, id, payload).write(&mut bytes);
-        bytes.truncate(self.random.within(1, bytes.len() - 1));
-        bytes
     }
 }
 
 #[cfg(test)]
 mod tests {
     use super::*;
+    use std::collections::HashSet;
 
     #[test]
     fn a_seed_gives_one_list() {
         let list = |seed| scripts(seed, 3000).map(|script| script.bytes()).collect::<Vec<_>>();
         assert_eq!(list(1), list(1));
         assert_ne!(list(1), list(2));
+    }
+
+    #[test]
+    fn no_two_lists_share_a_script() {
+        let all: Vec<_> = (1..=12).flat_map(|seed| scripts(seed, 20_000)).collect();
+        let different: HashSet<_> = all.iter().map(Script::bytes).collect();
+        assert_eq!(different.len(), all.len());
     }
 
     #[test]

@@ -305,9 +305,9 @@ impl Generator {
         }
     }
 
-    fn short_store(&mut self) -> u32 {
-        let any = self.random.below(STORE_BYTES);
-        self.random.weighted(&[(1, 0), (4, STORE_BYTES - 1), (1, 38), (1, any)]) as u32
+    pub(super) fn short_store(&mut self) -> u32 {
+        let any = self.random.below(STORE_WORDS);
+        self.random.weighted(&[(1, 0), (4, STORE_WORDS - 1), (1, ITEM_WORDS), (1, any)]) as u32
     }
 
     fn short_reply(&mut self) -> u32 {

@@ -11,6 +11,9 @@ const POSITIONAL_FRAMES: [u8; 6] = [0, 3, 5, 6, 10, 11];
 const NAV_COMMANDS: [u16; 8] = [16, 17, 18, 19, RETURN_HOME, LAND, 22, 31];
 const FLIGHT_COMMANDS: [u16; 14] =
     [16, 17, 18, 19, RETURN_HOME, LAND, 22, 31, 112, 114, 115, DO_JUMP, 178, 183];
+/// Flight commands as often as their edges are many.
+const JUDGED_COMMANDS: [u16; 13] =
+    [16, RETURN_HOME, LAND, 112, 115, 115, DO_JUMP, DO_JUMP, DO_JUMP, DO_JUMP, 178, 183, 183];
 const FENCE_COMMANDS: [u16; 5] = [5000, 5001, 5002, 5003, 5004];
 const RALLY_COMMAND: u16 = 5100;
 /// Commands beside the table's rows.
@@ -32,6 +35,8 @@ const EDGE_FLOATS: [u32; 68] = [
     0xFF7F_FFFF, 0x7F80_0000, 0xFF80_0000, 0x7FC0_0000, 0xFFC0_0000, 0x7F80_0001, 0xFFFF_FFFF,
     0x7FFF_FFFF, 0xFF80_0001, 0x4EFF_FFFF, 0xCF00_0000, 0xCF00_0001,
 ];
+
+const INFINITIES: [u32; 2] = [0x7F80_0000, 0xFF80_0000];
 
 pub fn commands(kind: usize) -> &'static [u16] {
     match kind {
@@ -108,7 +113,7 @@ fn body(random: &mut Random, kind: usize, number: u16, command: u16) -> Item {
         to: address(0, 0),
         frame,
         current: random.pick(&[0, 0, 1, 255]),
-        autocontinue: random.pick(&[0, 1, 1, 200]),
+        autocontinue: random.pick(&[0, 1, 1, 200, 255]),
         kind: kind as u8,
     }
 }
@@ -279,7 +284,7 @@ fn zero(negative: bool) -> u32 {
 
 /// An item of a kind with some fields at an edge, valid or not.
 pub fn edge_item(random: &mut Random, kind: usize, number: u16, count: u16) -> Item {
-    let judged = random.pick(&[16, RETURN_HOME, LAND, 112, 115, 115, DO_JUMP, DO_JUMP, 178, 183]);
+    let judged = random.pick(&JUDGED_COMMANDS);
     let command = match kind == FLIGHT && random.chance(2, 3) {
         true => judged,
         false => random.pick(commands(kind)),
@@ -293,6 +298,13 @@ pub fn edge_item(random: &mut Random, kind: usize, number: u16, count: u16) -> I
 
 /// Puts one field of the item at an edge of its rule.
 pub fn spoil(random: &mut Random, item: &mut Item, count: u16) {
+    let ruled: Vec<usize> =
+        [0, 1].into_iter().filter(|param| !rule_edges(item.command, *param).is_empty()).collect();
+    if !ruled.is_empty() && random.chance(1, 3) {
+        let param = random.pick(&ruled);
+        item.params[param] = edge_param(random, item, count, param);
+        return;
+    }
     match random.below(24) {
         0..=6 => item.params[0] = edge_param(random, item, count, 0),
         7..=11 => item.params[1] = edge_param(random, item, count, 1),
@@ -308,6 +320,17 @@ pub fn spoil(random: &mut Random, item: &mut Item, count: u16) {
     }
 }
 
+/// An item whose last word's fields are at their edges, with a command of the kind or any.
+pub fn last_word_fields(random: &mut Random, kind: usize) -> Item {
+    let own = random.pick(commands(kind));
+    Item {
+        command: random.pick(&[own, own, own | 0x8000, own ^ 0x100, 0, u16::MAX]),
+        frame: random.pick(&[0, 2, 3, 11, 128, 255]),
+        autocontinue: random.pick(&[0, 1, 2, 128, 255]),
+        ..Item::default()
+    }
+}
+
 /// Mostly a value at the edges of the command's own rule.
 fn edge_param(random: &mut Random, item: &Item, count: u16, param: usize) -> u32 {
     let own = rule_edges(item.command, param);
@@ -320,6 +343,7 @@ fn edge_param(random: &mut Random, item: &Item, count: u16, param: usize) -> u32
         _ => match random.below(8) {
             0 => random.pick(&EDGE_FLOATS),
             1 => random.pick(&NANS),
+            2 => random.pick(&INFINITIES),
             _ => random.pick(own).to_bits(),
         },
     }

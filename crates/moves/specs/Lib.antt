@@ -1,0 +1,3 @@
+-- The move from bytes to words.
+pub mod Moves
+pub mod Moving

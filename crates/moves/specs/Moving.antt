@@ -1,0 +1,177 @@
+-- The store after the items of a plan were moved, as the code moves them, one after the other; and what it shows.
+use Prim.Native.Nat.{ℕ, zero, suc, _+_, _≤_, _<_}
+use native.Mathlib.Omega.{arith}
+use native.Mathlib.Numerals.{add-one}
+use mathlib.Core.Path.{_≡_, refl, sym, ap, ap₂, _∙_}
+use mathlib.Core.Logic.{_⊎_, inl, inr, ⊎-elim}
+use mathlib.Core.List.{List, [], _∷_, _++_}
+use mathlib.Core.Bool.{Bool, false, _||_}
+use lib.ListN.{length, getD}
+use Rattle.rules.specs.Limits.{flight, fence, rally, sizeOf}
+use Rattle.rules.specs.Payload.{Bytes}
+use Rattle.rules.specs.Messages.{Item, itemIn}
+use Rattle.rules.specs.Words.{wordsOf}
+use Rattle.rule_laws.specs.Tests.{neither, outside}
+use Rattle.rule_laws.specs.Words.{length-wordsOf}
+use Rattle.places.specs.Part.{getD-put-before, getD-put-after}
+use Rattle.places.specs.Forms.{Store, words, bytes, least, offsetOf, itemAt, itemsIn, length-items}
+use Rattle.places.specs.Places.{words-lawful, offset-next, offset-within}
+use Rattle.places.specs.Writes.{putAt, otherKind, items-apart, items-more, length-stays}
+use Rattle.plan.specs.declared.State.{State}
+use Rattle.plan.specs.declared.Plan.{Plan}
+use Rattle.plan.specs.View.{planOf, uploadIn, viewIn, view}
+use Rattle.upload.specs.Turns.{ended}
+use Rattle.moves.specs.Moves.{placed, placedFrom, moved, inPlan, inPlans}
+
+-- the store with the first n items of a kind in a half put into their places
+unfoldable pub movedItems : (old new : Store) (half : Bool) (kind n : ℕ) → Store
+movedItems old new half kind zero = new
+movedItems old new half kind (suc n) = putAt words (movedItems old new half kind n) half kind n (wordsOf (itemIn (itemAt bytes old half kind n)))
+
+-- the store with the items of the three plans put into theirs
+unfoldable pub movedPlans : (old new : Store) (flight fence rally : Plan) → Store
+movedPlans old new p q r = movedItems old (movedItems old (movedItems old new (p .half) flight (p .len)) (q .half) fence (q .len)) (r .half) rally (r .len)
+
+placed-more : (kind n : ℕ) (items : List Bytes) (b : Bytes) → placedFrom kind n (items ++ (b ∷ [])) ≡ placedFrom kind n items ++ (placed kind (n + length items) b ∷ [])
+placed-more kind n [] b = ap (λ (k : ℕ). placed kind k b ∷ []) (omega arith)
+placed-more kind n (a ∷ items) b =
+    ap (λ (l : List Bytes). placed kind n a ∷ l)
+    (placed-more kind (suc n) items b ∙ ap (λ (k : ℕ). placedFrom kind (suc n) items ++ (placed kind k b ∷ [])) (omega arith))
+
+module _ (old new : Store) (long : least words ≤ length new) (half : Bool) (kind : ℕ) (known : kind ≤ rally) where
+  pub moved-length : (n : ℕ) → n ≤ sizeOf kind → length (movedItems old new half kind n) ≡ length new
+  unfolding movedItems
+  moved-length zero within = refl
+  moved-length (suc n) within =
+      let before = moved-length n (omega arith) in
+      let item = itemIn (itemAt bytes old half kind n) in
+      length-stays words words-lawful (movedItems old new half kind n) (omega (arith, before)) (wordsOf item) (length-wordsOf item) half kind n known (omega arith) ∙ before
+
+  -- the items that were moved
+  pub moved-items : (n : ℕ) → n ≤ sizeOf kind → itemsIn words (movedItems old new half kind n) half kind n ≡ placedFrom kind 0 (itemsIn bytes old half kind n)
+  unfolding movedItems itemsIn
+  moved-items zero within = refl
+  moved-items (suc n) within =
+      let b = itemAt bytes old half kind n in
+      let item = itemIn b in
+      items-more words words-lawful (movedItems old new half kind n) (omega (arith, moved-length n (omega arith))) (wordsOf item) (length-wordsOf item) half kind n known (omega arith)
+      ∙ ap (λ (l : List Bytes). l ++ (placed kind n b ∷ [])) (moved-items n (omega arith))
+      ∙ ap (λ (k : ℕ). placedFrom kind 0 (itemsIn bytes old half kind n) ++ (placed kind k b ∷ [])) (omega (arith, length-items bytes old half kind n))
+      ∙ sym (placed-more kind 0 (itemsIn bytes old half kind n) b)
+
+  -- the items of another kind
+  pub moved-apart :
+      (n : ℕ) → n ≤ sizeOf kind → (half′ : Bool) (kind′ m : ℕ) → kind′ ≤ rally → m ≤ sizeOf kind′ → (kind′ ≡ kind → ⊥)
+      → itemsIn words (movedItems old new half kind n) half′ kind′ m ≡ itemsIn words new half′ kind′ m
+  unfolding movedItems
+  moved-apart zero within half′ kind′ m known′ within′ other = refl
+  moved-apart (suc n) within half′ kind′ m known′ within′ other =
+      let item = itemIn (itemAt bytes old half kind n) in
+      items-apart words words-lawful (movedItems old new half kind n) (omega (arith, moved-length n (omega arith))) (wordsOf item) (length-wordsOf item) half kind n known (omega arith)
+      half′ kind′ m known′ within′ (otherKind other)
+      ∙ moved-apart n (omega arith) half′ kind′ m known′ within′ other
+
+  -- every word outside their places
+  pub moved-beside :
+      (n : ℕ) → n ≤ sizeOf kind → (i : ℕ) → (i < offsetOf words half kind 0) ⊎ (offsetOf words half kind n ≤ i)
+      → getD (movedItems old new half kind n) i 0 ≡ getD new i 0
+  unfolding movedItems
+  moved-beside zero within i outside = refl
+  moved-beside (suc n) within i outside =
+      let before = movedItems old new half kind n in
+      let item = itemIn (itemAt bytes old half kind n) in
+      let at = offsetOf words half kind n in
+      let fits : at + length (wordsOf item) ≤ length before = omega (arith, moved-length n (omega arith), offset-within words words-lawful half kind n known (omega arith)) in
+      let next : offsetOf words half kind (suc n) ≡ at + length (wordsOf item) = ap (offsetOf words half kind) (sym (add-one n)) ∙ offset-next words half kind n in
+      ⊎-elim
+      (λ (lower : i < offsetOf words half kind 0). getD-put-before before at (wordsOf item) fits i (omega (arith, first-lowest n)) ∙ moved-beside n (omega arith) i (inl lower))
+      (λ (upper : offsetOf words half kind (suc n) ≤ i). getD-put-after before at (wordsOf item) fits i (omega (arith, next)) ∙ moved-beside n (omega arith) i (inr (omega (arith, next))))
+      outside
+    where
+      first-lowest : (m : ℕ) → offsetOf words half kind 0 ≤ offsetOf words half kind m
+      first-lowest zero = omega arith
+      first-lowest (suc m) = omega (arith, first-lowest m, ap (offsetOf words half kind) (add-one m), offset-next words half kind m)
+
+-- ---- the three plans of a state, each with no more items than its kind's size
+
+-- the state after the move: every upload ended
+abbrev pub endedState : State → State
+endedState st =
+    record {
+      plans = ended (planOf st flight) ∷ ended (planOf st fence) ∷ ended (planOf st rally) ∷ [];
+      current = st .current;
+      begun = st .begun;
+      counts = st .counts;
+    }
+
+module _ (st : State) (old new : Store) (long : least words ≤ length new) (within : (kind : ℕ) → kind ≤ rally → planOf st kind .len ≤ sizeOf kind) where
+  abbrev afterFlight : Store
+  afterFlight = movedItems old new (planOf st flight .half) flight (planOf st flight .len)
+
+  abbrev afterFence : Store
+  afterFence = movedItems old afterFlight (planOf st fence .half) fence (planOf st fence .len)
+
+  abbrev afterAll : Store
+  afterAll = movedPlans old new (planOf st flight) (planOf st fence) (planOf st rally)
+
+  length-flight : length afterFlight ≡ length new
+  length-flight = moved-length old new long (planOf st flight .half) flight (omega arith) (planOf st flight .len) (within flight (omega arith))
+
+  long-flight : least words ≤ length afterFlight
+  long-flight = omega (arith, length-flight)
+
+  length-fence : length afterFence ≡ length new
+  length-fence = moved-length old afterFlight long-flight (planOf st fence .half) fence (omega arith) (planOf st fence .len) (within fence (omega arith)) ∙ length-flight
+
+  long-fence : least words ≤ length afterFence
+  long-fence = omega (arith, length-fence)
+
+  pub plans-length : length afterAll ≡ length new
+  unfolding movedPlans
+  plans-length = moved-length old afterFence long-fence (planOf st rally .half) rally (omega arith) (planOf st rally .len) (within rally (omega arith)) ∙ length-fence
+
+  -- what is moved later leaves what was moved before
+  abbrev Shows : (kind : ℕ) → Store → Type 0
+  Shows kind s = itemsIn words s (planOf st kind .half) kind (planOf st kind .len) ≡ placedFrom kind 0 (itemsIn bytes old (planOf st kind .half) kind (planOf st kind .len))
+
+  by-fence : (kind : ℕ) → kind ≤ rally → (kind ≡ fence → ⊥) → Shows kind afterFlight → Shows kind afterFence
+  by-fence kind known other shown =
+      moved-apart old afterFlight long-flight (planOf st fence .half) fence (omega arith) (planOf st fence .len) (within fence (omega arith)) (planOf st kind .half) kind (planOf st kind .len) known (within kind known) other
+      ∙ shown
+
+  by-rally : (kind : ℕ) → kind ≤ rally → (kind ≡ rally → ⊥) → Shows kind afterFence → Shows kind afterAll
+  unfolding movedPlans
+  by-rally kind known other shown =
+      moved-apart old afterFence long-fence (planOf st rally .half) rally (omega arith) (planOf st rally .len) (within rally (omega arith)) (planOf st kind .half) kind (planOf st kind .len) known (within kind known) other
+      ∙ shown
+
+  flight-shown : Shows flight afterAll
+  flight-shown =
+      by-rally flight (omega arith) (λ e. omega arith)
+      (by-fence flight (omega arith) (λ e. omega arith) (moved-items old new long (planOf st flight .half) flight (omega arith) (planOf st flight .len) (within flight (omega arith))))
+
+  fence-shown : Shows fence afterAll
+  fence-shown =
+      by-rally fence (omega arith) (λ e. omega arith)
+      (moved-items old afterFlight long-flight (planOf st fence .half) fence (omega arith) (planOf st fence .len) (within fence (omega arith)))
+
+  rally-shown : Shows rally afterAll
+  unfolding movedPlans
+  rally-shown = moved-items old afterFence long-fence (planOf st rally .half) rally (omega arith) (planOf st rally .len) (within rally (omega arith))
+
+  pub plans-moved : view (endedState st) afterAll ≡ moved (viewIn bytes st old)
+  unfolding viewIn uploadIn moved
+  plans-moved = rw (flight-shown, fence-shown, rally-shown) refl
+
+  -- a word outside the places of a plan's items
+  outside-plan : (kind i : ℕ) → inPlan st kind i ≡ false → (i < offsetOf words (planOf st kind .half) kind 0) ⊎ (offsetOf words (planOf st kind .half) kind (planOf st kind .len) ≤ i)
+  outside-plan kind i e = outside (offsetOf words (planOf st kind .half) kind 0) (offsetOf words (planOf st kind .half) kind (planOf st kind .len)) i e
+
+  pub plans-beside : (i : ℕ) → inPlans st i ≡ false → getD afterAll i 0 ≡ getD new i 0
+  unfolding movedPlans
+  plans-beside i e =
+      let two = neither (inPlan st flight i || inPlan st fence i) (inPlan st rally i) e in
+      let one = neither (inPlan st flight i) (inPlan st fence i) (two .0) in
+      moved-beside old afterFence long-fence (planOf st rally .half) rally (omega arith) (planOf st rally .len) (within rally (omega arith)) i (outside-plan rally i (two .1))
+      ∙ moved-beside old afterFlight long-flight (planOf st fence .half) fence (omega arith) (planOf st fence .len) (within fence (omega arith)) i (outside-plan fence i (one .1))
+      ∙ moved-beside old new long (planOf st flight .half) flight (omega arith) (planOf st flight .len) (within flight (omega arith)) i (outside-plan flight i (one .0))
