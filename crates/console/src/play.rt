@@ -94,6 +94,22 @@ fn done(r: Record, out: &mut [u8], at: usize, store: &[u32], state: State) -> Pl
     Played { state, at }
 }
 
+// A move: the plans of the old store go into the store.
+fn moved(
+    r: Record,
+    out: &mut [u8],
+    at: usize,
+    store: &mut [u32],
+    old: &[u8],
+    state: State,
+) -> Played {
+    let from = text::part(old, 0, r.a as usize);
+    let moved = moves::to_words(state, from, front_words(store, r.store));
+    let at = lines::put_moved(out, at, moved.outcome);
+    let state = moved.state;
+    Played { state, at }
+}
+
 // A word whose four bytes are the same.
 fn filled(byte: u8) -> u32 {
     byte as u32 * 0x101_0101
@@ -204,6 +220,7 @@ pub fn other(
             let at = rows::put_row(out, at, b's', &[same(r, store, copy, old, old_copy) as u64]);
             Played { state, at }
         }
+        script::MOVE => moved(r, out, at, store, old, state),
         _ => {
             let state = between(r, payload, store, copy, old, old_copy, state);
             Played { state, at }
