@@ -29,7 +29,7 @@ fn last_word(command: u16, frame: u8, autocontinue: u8) -> u32
     command as u32 + frame as u32 * FRAME_UNIT + autocontinue as u32 * AUTOCONTINUE_UNIT
 }
 
-// The item that eight words are as number n of a kind, with its values.
+// The item that eight words are, as one of a number and a kind, with its values.
 pub fn from_words(
     param1: u32,
     param2: u32,
@@ -40,9 +40,9 @@ pub fn from_words(
     z: u32,
     last: u32,
     kind: u8,
-    n: u16,
+    seq: u16,
 ) -> Item
-    ensures { λ r. ⌜ r ≡ itemFor (itemOfWords (param1 ∷ param2 ∷ param3 ∷ param4 ∷ x ∷ y ∷ z ∷ last ∷ []) kind n) ⌝ }
+    ensures { λ r. ⌜ r ≡ itemFor (itemOfWords (param1 ∷ param2 ∷ param3 ∷ param4 ∷ x ∷ y ∷ z ∷ last ∷ []) kind seq) ⌝ }
 {
     item::made(
         param1,
@@ -52,7 +52,7 @@ pub fn from_words(
         x,
         y,
         z,
-        n,
+        seq,
         (last % FRAME_UNIT) as u16,
         (last / FRAME_UNIT % BYTE_VALUES) as u8,
         (last / AUTOCONTINUE_UNIT % BYTE_VALUES) as u8,
