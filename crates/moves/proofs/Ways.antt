@@ -1,16 +1,13 @@
 -- The two ways of the move: refused, and done.
 use Prim.Native.Nat.{ℕ, zero, suc, _≤_}
 use native.Mathlib.Omega.{arith}
-use mathlib.Core.Path.{_≡_, refl, sym, ap, subst, _∙_}
+use mathlib.Core.Path.{_≡_, refl, sym, ap, _∙_}
 use mathlib.Core.List.{[], _∷_}
-use mathlib.Core.Bool.{Bool, true, false, cond, _||_}
-use lib.ListN.{length, getD}
-use lib.Dec.{ltb}
-use borrow.Author.Tests.{ltb-false}
-use Rattle.rules.specs.Limits.{flight, fence, rally, sizeOf, shortStore, outOfRange, noReply}
+use mathlib.Core.Bool.{Bool, true}
+use lib.ListN.{length}
+use Rattle.rules.specs.Limits.{flight, fence, rally, sizeOf, noReply}
 use Rattle.rules.specs.Model.{inRange}
-use Rattle.rule_laws.specs.Tests.{neither}
-use Rattle.places.specs.Forms.{Store, words, bytes, least}
+use Rattle.places.specs.Forms.{Store, bytes}
 use Rattle.plan.specs.declared.State.{State}
 use Rattle.plan.specs.declared.Plan.{Plan}
 use Rattle.plan.specs.View.{planOf, viewIn}
@@ -18,23 +15,8 @@ use Rattle.ranges.specs.Ranges.{plansRanged, allRanged, in-range}
 use Rattle.ranges.specs.Ranged.{plans-ranged, plan-ranges}
 use Rattle.upload.specs.Turns.{ended}
 use Rattle.moves.specs.Moves.{outcomeOf, MovesToWords}
+use Rattle.moves.specs.Outcome.{Moving, moving}
 use Rattle.moves.specs.Moving.{movedPlans, endedState, plans-length, plans-moved, plans-beside}
-
--- what outcome 1 tells
-pub record Moving (ranged : Bool) (old new : ℕ) : Type 0 where
-  pub oldLong : least bytes ≤ old
-  pub newLong : least words ≤ new
-  pub inRange : ranged ≡ true
-
-moving : (ranged : Bool) (old new : ℕ) → outcomeOf ranged old new ≡ noReply → Moving ranged old new
-moving ranged old new e = go (ltb old (least bytes) || ltb new (least words)) ranged refl refl e
-  where
-    go : (short t : Bool) → (ltb old (least bytes) || ltb new (least words)) ≡ short → ranged ≡ t → cond short shortStore (cond t noReply outOfRange) ≡ noReply → Moving ranged old new
-    go true t is r e = absurd (omega arith)
-    go false false is r e = absurd (omega arith)
-    go false true is r e =
-        let long = neither (ltb old (least bytes)) (ltb new (least words)) is in
-        record { oldLong = ltb-false old (least bytes) (long .0); newLong = ltb-false new (least words) (long .1); inRange = r }
 
 module _ (st : State) (old new : Store) (ranged : Bool) (outcome : ℕ)
     (test : ranged ≡ allRanged (planOf st flight) (planOf st fence) (planOf st rally) (st .current) (st .counts))

@@ -32,7 +32,7 @@ movedItems old new half kind (suc n) = putAt words (movedItems old new half kind
 unfoldable pub movedPlans : (old new : Store) (flight fence rally : Plan) → Store
 movedPlans old new p q r = movedItems old (movedItems old (movedItems old new (p .half) flight (p .len)) (q .half) fence (q .len)) (r .half) rally (r .len)
 
-placed-more : (kind n : ℕ) (items : List Bytes) (b : Bytes) → placedFrom kind n (items ++ (b ∷ [])) ≡ placedFrom kind n items ++ (placed kind (n + length items) b ∷ [])
+pub placed-more : (kind n : ℕ) (items : List Bytes) (b : Bytes) → placedFrom kind n (items ++ (b ∷ [])) ≡ placedFrom kind n items ++ (placed kind (n + length items) b ∷ [])
 placed-more kind n [] b = ap (λ (k : ℕ). placed kind k b ∷ []) (omega arith)
 placed-more kind n (a ∷ items) b =
     ap (λ (l : List Bytes). placed kind n a ∷ l)
