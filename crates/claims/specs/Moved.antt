@@ -2,22 +2,22 @@
 -- begun, and jump counts. Its uploads have ended.
 use Prim.Native.Nat.{ℕ, _+_, _≤_}
 use native.Mathlib.Omega.{arith}
-use mathlib.Core.Path.{_≡_, refl, sym, ap, subst, _∙_}
+use mathlib.Core.Path.{_≡_, sym, ap, subst, _∙_}
 use mathlib.Core.List.{List, [], _∷_, map}
 use mathlib.Core.Bool.{true}
 use lib.ListN.{length, replicate, length-replicate}
 use borrow.Author.Tests.{le-leb}
-use Rattle.rules.specs.Limits.{rally, kinds, sizeOf, noReply}
+use Rattle.rules.specs.Limits.{rally, kinds, noReply}
 use Rattle.rules.specs.Model.{Model, idle, inRange}
 use Rattle.rules.specs.Calls.{Call, storeLent}
 use Rattle.rule_laws.specs.Fitting.{CallsFit}
 use Rattle.places.specs.Forms.{Store, words}
 use Rattle.places.specs.Places.{words-lawful}
 use Rattle.plan.specs.declared.State.{State}
-use Rattle.plan.specs.View.{planOf, view}
+use Rattle.plan.specs.View.{view}
 use Rattle.refine.specs.Items.{len-ranged}
 use Rattle.moves.specs.Moves.{MovesToWords, moved}
-use Rattle.moves.specs.Outcome.{moving}
+use Rattle.moves.specs.Outcome.{movable}
 use Rattle.moves.specs.Same.{moved-same}
 use Rattle.claims.specs.Demand3.{Got}
 use Rattle.claims.specs.Service.{World, shows}
@@ -53,5 +53,5 @@ shows-as-before t cs hs z over-bytes fit new st′ new′ outcome moves done =
     let over-words = trace-exists s cs fit lent in
     let w = over-words .ends in
     let same : shows w ≡ byteShows z = answers-as-over-bytes s t cs (over-words .given) hs w z (over-words .trace) over-bytes .1 in
-    let ranged : inRange (byteShows z) ≡ true = moving (inRange (byteShows z)) (length (z .store)) (length new) (sym (moves .answer) ∙ done) .inRange in
+    let ranged : inRange (byteShows z) ≡ true = movable (inRange (byteShows z)) (length (z .store)) (length new) (sym (moves .answer) ∙ done) .inRange in
     moves .shown done ∙ ap moved (sym same) ∙ rest-same w (ap inRange same ∙ ranged) ∙ ap atRest same

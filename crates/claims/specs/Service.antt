@@ -2,7 +2,6 @@
 use Prim.Native.Nat.{ℕ}
 use mathlib.Core.Path.{_≡_, sym, ap, _∙_}
 use mathlib.Core.List.{List}
-use mathlib.Core.Bool.{Bool}
 use lib.Dec.{ltb}
 use Rattle.rules.specs.Limits.{storeWords}
 use Rattle.rules.specs.Payload.{Bytes}

@@ -15,7 +15,7 @@ use Rattle.ranges.specs.Ranges.{plansRanged, allRanged, in-range}
 use Rattle.ranges.specs.Ranged.{plans-ranged, plan-ranges}
 use Rattle.upload.specs.Turns.{ended}
 use Rattle.moves.specs.Moves.{outcomeOf, MovesToWords}
-use Rattle.moves.specs.Outcome.{Moving, moving}
+use Rattle.moves.specs.Outcome.{Movable, movable}
 use Rattle.moves.specs.Moving.{movedPlans, endedState, plans-length, plans-moved, plans-beside}
 
 module _ (st : State) (old new : Store) (ranged : Bool) (outcome : ℕ)
@@ -36,8 +36,8 @@ module _ (st : State) (old new : Store) (ranged : Bool) (outcome : ℕ)
       }
 
   module _ (done : outcome ≡ noReply) where
-    pub facts : Moving ranged (length old) (length new)
-    facts = moving ranged (length old) (length new) (sym said ∙ done)
+    pub facts : Movable ranged (length old) (length new)
+    facts = movable ranged (length old) (length new) (sym said ∙ done)
 
     pub plans-in-range : plansRanged (planOf st flight) (planOf st fence) (planOf st rally) ≡ true
     plans-in-range = plans-ranged (planOf st flight) (planOf st fence) (planOf st rally) (st .current) (st .counts) (sym test ∙ facts .inRange)

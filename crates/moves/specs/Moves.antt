@@ -44,12 +44,9 @@ moved m =
       uploads = map (λ (kind : ℕ). idle) kinds;
     }
 
-abbrev halfOf : State → (kind : ℕ) → Bool
-halfOf st kind = plan.planOf st kind .half
-
 -- word i of the store is one of a plan's items
 abbrev pub inPlan : State → (kind i : ℕ) → Bool
-inPlan st kind i = leb (offsetOf words (halfOf st kind) kind 0) i && ltb i (offsetOf words (halfOf st kind) kind (plan.planOf st kind .len))
+inPlan st kind i = let p = plan.planOf st kind in leb (offsetOf words (p .half) kind 0) i && ltb i (offsetOf words (p .half) kind (p .len))
 
 abbrev pub inPlans : State → ℕ → Bool
 inPlans st i = inPlan st flight i || inPlan st fence i || inPlan st rally i
@@ -61,7 +58,7 @@ pub record MovesToWords (st : State) (old new : Store) (st′ : State) (new′ :
   -- what is shown after it
   pub shown : outcome ≡ noReply → view st′ new′ ≡ moved (viewIn bytes st old)
   -- each plan keeps its half
-  pub halves : (kind : ℕ) → kind ≤ rally → halfOf st′ kind ≡ halfOf st kind
+  pub halves : (kind : ℕ) → kind ≤ rally → plan.planOf st′ kind .half ≡ plan.planOf st kind .half
   -- "changing nothing"
   pub unchanged : (outcome ≡ noReply → ⊥) → (st′ ≡ st) × (new′ ≡ new)
   -- every word outside the places of the moved plans stays

@@ -2,14 +2,14 @@
 use Prim.Native.Nat.{ℕ, zero, suc, _+_, _≤_, _<_}
 use native.Mathlib.Omega.{arith}
 use native.Mathlib.Numerals.{add-one}
-use mathlib.Core.Path.{_≡_, refl, sym, ap, ap₂, _∙_}
+use mathlib.Core.Path.{_≡_, refl, sym, ap, _∙_}
 use mathlib.Core.Logic.{_⊎_, inl, inr, ⊎-elim}
 use mathlib.Core.List.{List, [], _∷_, _++_}
 use mathlib.Core.Bool.{Bool, false, _||_}
 use lib.ListN.{length, getD}
 use Rattle.rules.specs.Limits.{flight, fence, rally, sizeOf}
 use Rattle.rules.specs.Payload.{Bytes}
-use Rattle.rules.specs.Messages.{Item, itemIn}
+use Rattle.rules.specs.Messages.{itemIn}
 use Rattle.rules.specs.Words.{wordsOf}
 use Rattle.rule_laws.specs.Tests.{neither, outside}
 use Rattle.rule_laws.specs.Words.{length-wordsOf}

@@ -10,15 +10,15 @@ use Rattle.rule_laws.specs.Tests.{neither}
 use Rattle.places.specs.Forms.{words, bytes, least}
 use Rattle.moves.specs.Moves.{outcomeOf}
 
-pub record Moving (ranged : Bool) (old new : ℕ) : Type 0 where
+pub record Movable (ranged : Bool) (old new : ℕ) : Type 0 where
   pub oldLong : least bytes ≤ old
   pub newLong : least words ≤ new
   pub inRange : ranged ≡ true
 
-pub moving : (ranged : Bool) (old new : ℕ) → outcomeOf ranged old new ≡ noReply → Moving ranged old new
-moving ranged old new e = go (ltb old (least bytes) || ltb new (least words)) ranged refl refl e
+pub movable : (ranged : Bool) (old new : ℕ) → outcomeOf ranged old new ≡ noReply → Movable ranged old new
+movable ranged old new e = go (ltb old (least bytes) || ltb new (least words)) ranged refl refl e
   where
-    go : (short t : Bool) → (ltb old (least bytes) || ltb new (least words)) ≡ short → ranged ≡ t → cond short shortStore (cond t noReply outOfRange) ≡ noReply → Moving ranged old new
+    go : (short t : Bool) → (ltb old (least bytes) || ltb new (least words)) ≡ short → ranged ≡ t → cond short shortStore (cond t noReply outOfRange) ≡ noReply → Movable ranged old new
     go true t is r e = absurd (omega arith)
     go false false is r e = absurd (omega arith)
     go false true is r e =

@@ -1,9 +1,9 @@
 -- The forms of a store: how many of its numbers an item takes and which stored item they are, and where the items of a kind stand in either half. The store of
--- the service is one of words (M-106); before it was one of bytes.
+-- the service is one of words (M-106); that from which plans are moved into it is one of bytes.
 use mathlib.Core.Path.{_≡_, refl, _∙_, sym, ap}
 use mathlib.Core.List.{List, [], _∷_, _++_}
 use mathlib.Core.Bool.{Bool, cond}
-use Prim.Native.Nat.{ℕ, zero, suc, _+_, _*_, _≤_, _<_}
+use Prim.Native.Nat.{ℕ, zero, suc, _+_, _*_, _<_}
 use native.Mathlib.Decide.{decLt}
 use native.Mathlib.Omega.{arith}
 use native.Mathlib.Numerals.{add-one}
@@ -42,7 +42,7 @@ words =
       first = firstPlaceOf;
     }
 
--- before: "A stored item is payload 73, all 38 bytes"
+-- "A stored item is payload 73, all 38 bytes": document 01's store
 abbrev pub bytes : Form
 bytes =
     record {

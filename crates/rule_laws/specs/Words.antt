@@ -4,7 +4,7 @@ use native.Mathlib.Omega.{arith}
 use native.Mathlib.Nat.{mod-eq-of-lt, pow-zero, pow-suc}
 use lib.Arith.{mod-mul}
 use mathlib.Core.Path.{_≡_, refl, sym, ap, ap₂, _∙_}
-use mathlib.Core.List.{List, [], _∷_}
+use mathlib.Core.List.{List, _∷_}
 use lib.ListN.{length, getD}
 use Rattle.rules.specs.Limits.{byteValues, clockValues, itemWords}
 use Rattle.rules.specs.Payload.{numberAt, bytesOf}

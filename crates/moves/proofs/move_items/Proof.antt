@@ -9,7 +9,7 @@ use lib.ListN.{length}
 use Rattle.rules.specs.Messages.{itemIn}
 use Rattle.rules.specs.Words.{wordsOf}
 use Rattle.item.specs.declared.Item.{Item}
-use Rattle.item.specs.Patterns.{itemFor, patterns, patterns-of}
+use Rattle.item.specs.Patterns.{itemFor, patterns}
 use Rattle.places.specs.Forms.{Store, words, bytes, itemAt}
 use Rattle.places.specs.Writes.{putAt}
 use Rattle.moves.specs.Moving.{movedItems, moved-length}

@@ -1,5 +1,4 @@
 -- The move is refused, or the three plans are moved and every upload ends (`Ways`).
-use mathlib.Core.Path.{_≡_}
 use borrow.Author.Needs.{needs}
 use Rattle.moves.proofs.Ways.{refused, facts, plans-in-range, moves}
 use Rattle.moves.proofs.to_words.Statement.{statement}
