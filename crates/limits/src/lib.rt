@@ -91,3 +91,8 @@ pub const REPLY_BYTES: usize = 54;
 pub const ITEM_WORDS: usize = 8;
 
 pub const STORE_WORDS: usize = 5632;
+
+// In the last word of an item the command stands lowest; the frame and the autocontinue begin behind it.
+pub const FRAME_UNIT: u32 = 0x1_0000;
+
+pub const AUTOCONTINUE_UNIT: u32 = 0x100_0000;

@@ -10,6 +10,7 @@ ghost use Rattle.places.specs.Forms.{words, placeOf, offsetOf, itemsIn};
 ghost use Rattle.places.specs.Stored.{withCommand};
 use limits::FENCE;
 use limits::FLIGHT;
+use limits::FRAME_UNIT;
 use limits::ITEM_WORDS;
 use limits::JUMP;
 use limits::RALLY;
@@ -69,7 +70,6 @@ pub fn put_item(store: &mut [u32], at: usize, item: [u32; ITEM_WORDS])
     }
 }
 
-// The last of an item's words has the command in its low half.
 const LAST_WORD: usize = ITEM_WORDS - 1;
 
 // The command of the item that begins at `at`.
@@ -77,7 +77,7 @@ pub fn command_at(store: &[u32], at: usize) -> u16
     requires { ⌜ at + itemWords ≤ length (now store) ⌝ }
     ensures { λ r. ⌜ r ≡ commandIn (getD (now (store .entry)) (at + lastWord) 0) ⌝ }
 {
-    (store[at + LAST_WORD] % 0x1_0000) as u16
+    (store[at + LAST_WORD] % FRAME_UNIT) as u16
 }
 
 // The bit pattern of its param 1, the first word.

@@ -11,14 +11,11 @@ ghost use Rattle.places.specs.Forms.{words, itemAt};
 ghost use Rattle.places.specs.Writes.{putAt};
 ghost use Rattle.storage.specs.Kept.{atPlace};
 use item::Item;
+use limits::AUTOCONTINUE_UNIT;
+use limits::FRAME_UNIT;
 use limits::ITEM_WORDS;
 use places::place_at;
 use places::put_item;
-
-// Where the frame and the autocontinue begin in the last word, behind the command.
-const FRAME_UNIT: u32 = 0x1_0000;
-
-const AUTOCONTINUE_UNIT: u32 = 0x100_0000;
 
 const BYTE_VALUES: u32 = 0x100;
 
