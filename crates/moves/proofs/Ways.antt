@@ -1,18 +1,20 @@
 -- The two ways of the move: refused, and done.
-use Prim.Native.Nat.{ℕ, zero, suc, _≤_}
+use Prim.Native.Nat.{ℕ, _≤_}
 use native.Mathlib.Omega.{arith}
 use mathlib.Core.Path.{_≡_, refl, sym, ap, _∙_}
 use mathlib.Core.List.{[], _∷_}
 use mathlib.Core.Bool.{Bool, true}
-use lib.ListN.{length}
+use lib.ListN.{length, getD}
+use borrow.Author.Tests.{le-leb}
 use Rattle.rules.specs.Limits.{flight, fence, rally, sizeOf, noReply}
 use Rattle.rules.specs.Model.{inRange}
+use Rattle.rule_laws.specs.Kinds.{each-kind}
 use Rattle.places.specs.Forms.{Store, bytes}
 use Rattle.plan.specs.declared.State.{State}
 use Rattle.plan.specs.declared.Plan.{Plan}
-use Rattle.plan.specs.View.{planOf, viewIn}
+use Rattle.plan.specs.View.{emptyPlan, planOf, viewIn}
 use Rattle.ranges.specs.Ranges.{plansRanged, allRanged, in-range}
-use Rattle.ranges.specs.Ranged.{plans-ranged, plan-ranges}
+use Rattle.ranges.specs.Ranged.{PlanRanges, plans-ranged, plan-ranges}
 use Rattle.upload.specs.Turns.{ended}
 use Rattle.moves.specs.Moves.{outcomeOf, MovesToWords}
 use Rattle.moves.specs.Outcome.{Movable, movable}
@@ -43,26 +45,23 @@ module _ (st : State) (old new : Store) (ranged : Bool) (outcome : ℕ)
     plans-in-range = plans-ranged (planOf st flight) (planOf st fence) (planOf st rally) (st .current) (st .counts) (sym test ∙ facts .inRange)
 
     within : (kind : ℕ) → kind ≤ rally → planOf st kind .len ≤ sizeOf kind
-    within zero known = plan-ranges (planOf st flight) (planOf st fence) (planOf st rally) plans-in-range flight known .len
-    within (suc zero) known = plan-ranges (planOf st flight) (planOf st fence) (planOf st rally) plans-in-range fence known .len
-    within (suc (suc zero)) known = plan-ranges (planOf st flight) (planOf st fence) (planOf st rally) plans-in-range rally known .len
-    within (suc (suc (suc kind))) known = absurd (omega arith)
+    within kind known =
+        let of : (k : ℕ) → k ≤ rally → PlanRanges k (getD (planOf st flight ∷ planOf st fence ∷ planOf st rally ∷ []) k emptyPlan) =
+        plan-ranges (planOf st flight) (planOf st fence) (planOf st rally) plans-in-range in
+        each-kind (λ (k : ℕ). planOf st k .len ≤ sizeOf k) (of flight (omega arith) .len) (of fence (omega arith) .len) (of rally (omega arith) .len) kind (le-leb kind rally known)
 
     halves-stay : (kind : ℕ) → kind ≤ rally → planOf (endedState st) kind .half ≡ planOf st kind .half
-    halves-stay zero known = refl
-    halves-stay (suc zero) known = refl
-    halves-stay (suc (suc zero)) known = refl
-    halves-stay (suc (suc (suc kind))) known = absurd (omega arith)
+    halves-stay kind known = each-kind (λ (k : ℕ). planOf (endedState st) k .half ≡ planOf st k .half) refl refl refl kind (le-leb kind rally known)
 
     moves-all : MovesToWords st old new (endedState st) (movedPlans old new (planOf st flight) (planOf st fence) (planOf st rally)) outcome
     moves-all =
         record {
           answer = answered;
-          shown = λ e. plans-moved st old new (facts .newLong) within;
+          shown = λ e. plans-moved st old within new (facts .newLong);
           halves = halves-stay;
           unchanged = λ other. absurd (other done);
-          beside = plans-beside st old new (facts .newLong) within;
-          long = plans-length st old new (facts .newLong) within;
+          beside = plans-beside st old within new (facts .newLong);
+          long = plans-length st old within new (facts .newLong);
         }
 
     -- the state and the store as the code has them

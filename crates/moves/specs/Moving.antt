@@ -104,74 +104,80 @@ endedState st =
       counts = st .counts;
     }
 
-module _ (st : State) (old new : Store) (long : least words ≤ length new) (within : (kind : ℕ) → kind ≤ rally → planOf st kind .len ≤ sizeOf kind) where
-  abbrev afterFlight : Store
-  afterFlight = movedItems old new (planOf st flight .half) flight (planOf st flight .len)
+module _ (st : State) (old : Store) (within : (kind : ℕ) → kind ≤ rally → planOf st kind .len ≤ sizeOf kind) where
+  -- the store with the plan of a kind moved into it
+  abbrev moveOne : (kind : ℕ) → Store → Store
+  moveOne kind s = movedItems old s (planOf st kind .half) kind (planOf st kind .len)
 
-  abbrev afterFence : Store
-  afterFence = movedItems old afterFlight (planOf st fence .half) fence (planOf st fence .len)
-
-  abbrev afterAll : Store
-  afterAll = movedPlans old new (planOf st flight) (planOf st fence) (planOf st rally)
-
-  length-flight : length afterFlight ≡ length new
-  length-flight = moved-length old new long (planOf st flight .half) flight (omega arith) (planOf st flight .len) (within flight (omega arith))
-
-  long-flight : least words ≤ length afterFlight
-  long-flight = omega (arith, length-flight)
-
-  length-fence : length afterFence ≡ length new
-  length-fence = moved-length old afterFlight long-flight (planOf st fence .half) fence (omega arith) (planOf st fence .len) (within fence (omega arith)) ∙ length-flight
-
-  long-fence : least words ≤ length afterFence
-  long-fence = omega (arith, length-fence)
-
-  pub plans-length : length afterAll ≡ length new
-  unfolding movedPlans
-  plans-length = moved-length old afterFence long-fence (planOf st rally .half) rally (omega arith) (planOf st rally .len) (within rally (omega arith)) ∙ length-fence
-
-  -- what is moved later leaves what was moved before
+  -- a store of words shows what was moved of a kind
   abbrev Shows : (kind : ℕ) → Store → Type 0
   Shows kind s = itemsIn words s (planOf st kind .half) kind (planOf st kind .len) ≡ placedFrom kind 0 (itemsIn bytes old (planOf st kind .half) kind (planOf st kind .len))
 
-  by-fence : (kind : ℕ) → kind ≤ rally → (kind ≡ fence → ⊥) → Shows kind afterFlight → Shows kind afterFence
-  by-fence kind known other shown =
-      moved-apart old afterFlight long-flight (planOf st fence .half) fence (omega arith) (planOf st fence .len) (within fence (omega arith)) (planOf st kind .half) kind (planOf st kind .len) known (within kind known) other
-      ∙ shown
+  module _ (s : Store) (long : least words ≤ length s) (kind : ℕ) (known : kind ≤ rally) where
+    one-length : length (moveOne kind s) ≡ length s
+    one-length = moved-length old s long (planOf st kind .half) kind known (planOf st kind .len) (within kind known)
 
-  by-rally : (kind : ℕ) → kind ≤ rally → (kind ≡ rally → ⊥) → Shows kind afterFence → Shows kind afterAll
-  unfolding movedPlans
-  by-rally kind known other shown =
-      moved-apart old afterFence long-fence (planOf st rally .half) rally (omega arith) (planOf st rally .len) (within rally (omega arith)) (planOf st kind .half) kind (planOf st kind .len) known (within kind known) other
-      ∙ shown
+    one-long : least words ≤ length (moveOne kind s)
+    one-long = omega (arith, one-length)
 
-  flight-shown : Shows flight afterAll
-  flight-shown =
-      by-rally flight (omega arith) (λ e. omega arith)
-      (by-fence flight (omega arith) (λ e. omega arith) (moved-items old new long (planOf st flight .half) flight (omega arith) (planOf st flight .len) (within flight (omega arith))))
+    one-shown : Shows kind (moveOne kind s)
+    one-shown = moved-items old s long (planOf st kind .half) kind known (planOf st kind .len) (within kind known)
 
-  fence-shown : Shows fence afterAll
-  fence-shown =
-      by-rally fence (omega arith) (λ e. omega arith)
-      (moved-items old afterFlight long-flight (planOf st fence .half) fence (omega arith) (planOf st fence .len) (within fence (omega arith)))
+    -- what was moved before stays
+    others-shown : (other : ℕ) → other ≤ rally → (other ≡ kind → ⊥) → Shows other s → Shows other (moveOne kind s)
+    others-shown other known′ apart shown =
+        moved-apart old s long (planOf st kind .half) kind known (planOf st kind .len) (within kind known) (planOf st other .half) other (planOf st other .len) known′ (within other known′) apart
+        ∙ shown
 
-  rally-shown : Shows rally afterAll
-  unfolding movedPlans
-  rally-shown = moved-items old afterFence long-fence (planOf st rally .half) rally (omega arith) (planOf st rally .len) (within rally (omega arith))
+    one-beside : (i : ℕ) → inPlan st kind i ≡ false → getD (moveOne kind s) i 0 ≡ getD s i 0
+    one-beside i e =
+        moved-beside old s long (planOf st kind .half) kind known (planOf st kind .len) (within kind known) i
+        (outside (offsetOf words (planOf st kind .half) kind 0) (offsetOf words (planOf st kind .half) kind (planOf st kind .len)) i e)
 
-  pub plans-moved : view (endedState st) afterAll ≡ moved (viewIn bytes st old)
-  unfolding viewIn uploadIn moved
-  plans-moved = rw (flight-shown, fence-shown, rally-shown) refl
+  -- the three plans, one after the other
+  module _ (new : Store) (long : least words ≤ length new) where
+    abbrev afterFlight : Store
+    afterFlight = moveOne flight new
 
-  -- a word outside the places of a plan's items
-  outside-plan : (kind i : ℕ) → inPlan st kind i ≡ false → (i < offsetOf words (planOf st kind .half) kind 0) ⊎ (offsetOf words (planOf st kind .half) kind (planOf st kind .len) ≤ i)
-  outside-plan kind i e = outside (offsetOf words (planOf st kind .half) kind 0) (offsetOf words (planOf st kind .half) kind (planOf st kind .len)) i e
+    abbrev afterFence : Store
+    afterFence = moveOne fence afterFlight
 
-  pub plans-beside : (i : ℕ) → inPlans st i ≡ false → getD afterAll i 0 ≡ getD new i 0
-  unfolding movedPlans
-  plans-beside i e =
-      let two = neither (inPlan st flight i || inPlan st fence i) (inPlan st rally i) e in
-      let one = neither (inPlan st flight i) (inPlan st fence i) (two .0) in
-      moved-beside old afterFence long-fence (planOf st rally .half) rally (omega arith) (planOf st rally .len) (within rally (omega arith)) i (outside-plan rally i (two .1))
-      ∙ moved-beside old afterFlight long-flight (planOf st fence .half) fence (omega arith) (planOf st fence .len) (within fence (omega arith)) i (outside-plan fence i (one .1))
-      ∙ moved-beside old new long (planOf st flight .half) flight (omega arith) (planOf st flight .len) (within flight (omega arith)) i (outside-plan flight i (one .0))
+    abbrev afterAll : Store
+    afterAll = movedPlans old new (planOf st flight) (planOf st fence) (planOf st rally)
+
+    long-flight : least words ≤ length afterFlight
+    long-flight = one-long new long flight (omega arith)
+
+    long-fence : least words ≤ length afterFence
+    long-fence = one-long afterFlight long-flight fence (omega arith)
+
+    pub plans-length : length afterAll ≡ length new
+    unfolding movedPlans
+    plans-length = one-length afterFence long-fence rally (omega arith) ∙ one-length afterFlight long-flight fence (omega arith) ∙ one-length new long flight (omega arith)
+
+    fence-shown : Shows fence afterAll
+    unfolding movedPlans
+    fence-shown = others-shown afterFence long-fence rally (omega arith) fence (omega arith) (λ e. omega arith) (one-shown afterFlight long-flight fence (omega arith))
+
+    flight-shown : Shows flight afterAll
+    unfolding movedPlans
+    flight-shown =
+        others-shown afterFence long-fence rally (omega arith) flight (omega arith) (λ e. omega arith)
+        (others-shown afterFlight long-flight fence (omega arith) flight (omega arith) (λ e. omega arith) (one-shown new long flight (omega arith)))
+
+    rally-shown : Shows rally afterAll
+    unfolding movedPlans
+    rally-shown = one-shown afterFence long-fence rally (omega arith)
+
+    pub plans-moved : view (endedState st) afterAll ≡ moved (viewIn bytes st old)
+    unfolding viewIn uploadIn moved
+    plans-moved = rw (flight-shown, fence-shown, rally-shown) refl
+
+    pub plans-beside : (i : ℕ) → inPlans st i ≡ false → getD afterAll i 0 ≡ getD new i 0
+    unfolding movedPlans
+    plans-beside i e =
+        let two = neither (inPlan st flight i || inPlan st fence i) (inPlan st rally i) e in
+        let one = neither (inPlan st flight i) (inPlan st fence i) (two .0) in
+        one-beside afterFence long-fence rally (omega arith) i (two .1)
+        ∙ one-beside afterFlight long-flight fence (omega arith) i (one .1)
+        ∙ one-beside new long flight (omega arith) i (one .0)

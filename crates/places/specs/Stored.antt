@@ -1,5 +1,5 @@
 -- The fields of an item as numbers of the store, and counting items by their command.
-use mathlib.Core.Path.{_≡_, refl}
+use mathlib.Core.Path.{_≡_, refl, ap, _∙_}
 use mathlib.Core.List.{List, [], _∷_, _++_}
 use mathlib.Core.Bool.{Bool, true, false, cond}
 use Prim.Native.Nat.{ℕ, suc, _%_}
@@ -7,22 +7,20 @@ use native.Mathlib.Omega.{arith}
 use lib.ListN.{getD}
 use lib.Dec.{eqb}
 use Rattle.rules.specs.Limits.{clockValues}
-use Rattle.rules.specs.Payload.{Bytes, numberAt, bytesOf}
-use Rattle.rules.specs.Layouts.{layoutOf, values, pack}
-use Rattle.rules.specs.Messages.{encode, itemOf, itemIn}
-use Rattle.rules.specs.Words.{lastWord, commandIn}
+use Rattle.rules.specs.Payload.{Bytes}
+use Rattle.rules.specs.Messages.{Item, itemIn}
+use Rattle.rules.specs.Words.{lastWord, commandIn, itemOfWords}
 use Rattle.rules.specs.Items.{jump, returnPoint, jumpsAmong}
 use Rattle.rules.specs.Fence.{returnPoints}
+use Rattle.rule_laws.specs.Words.{stored-says}
 use Rattle.places.specs.Forms.{words}
 
 -- the command and param 1 of the stored item that eight words are, wherever it stands
 pub command-is : (w : List ℕ) (kind n : ℕ) → itemIn (words .stored w kind n) .command ≡ commandIn (getD w lastWord 0)
-unfolding itemIn itemOf encode pack layoutOf values numberAt bytesOf
-command-is w kind n = omega arith
+command-is w kind n = ap (λ (i : Item). i .command) (stored-says (itemOfWords w kind n)) ∙ omega arith
 
 pub param1-is : (w : List ℕ) (kind n : ℕ) → itemIn (words .stored w kind n) .param1 ≡ getD w 0 0 % clockValues
-unfolding itemIn itemOf encode pack layoutOf values numberAt bytesOf
-param1-is w kind n = omega arith
+param1-is w kind n = ap (λ (i : Item). i .param1) (stored-says (itemOfWords w kind n))
 
 -- ---- counting items by their command
 

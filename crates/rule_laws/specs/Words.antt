@@ -7,8 +7,8 @@ use mathlib.Core.Path.{_≡_, refl, sym, ap, ap₂, _∙_}
 use mathlib.Core.List.{List, _∷_}
 use lib.ListN.{length, getD}
 use Rattle.rules.specs.Limits.{byteValues, clockValues, itemWords}
-use Rattle.rules.specs.Payload.{numberAt, bytesOf}
-use Rattle.rules.specs.Layouts.{layoutOf, values, pack}
+use Rattle.rules.specs.Payload.{bytesOf}
+use Rattle.rules.specs.Layouts.{layoutOf, pack}
 use Rattle.rules.specs.Messages.{Item, encode, itemOf, itemIn}
 use Rattle.rules.specs.Words.{frameUnit, commandIn, frameIn, autocontinueIn, lastWordOf, wordsOf, itemOfWords}
 use Rattle.rule_laws.specs.ReadBack.{item-reads-back}
@@ -69,7 +69,7 @@ words-read w kind n h hk hn =
 -- ---- what is stored is stored again as it is, whatever the words
 
 -- an item with each number cut to its field
-abbrev cut : Item → Item
+abbrev pub cut : Item → Item
 cut i =
     record {
       param1 = i .param1 % clockValues;
@@ -86,34 +86,7 @@ cut i =
       kind = i .kind % byteValues;
     }
 
--- what a stored item says
-stored-says : (i : Item) → itemIn (itemOf i) ≡ cut i
-unfolding itemIn itemOf encode pack layoutOf values numberAt bytesOf
-stored-says i =
-    λ t. record {
-      param1 = four (i .param1) t;
-      param2 = four (i .param2) t;
-      param3 = four (i .param3) t;
-      param4 = four (i .param4) t;
-      x = four (i .x) t;
-      y = four (i .y) t;
-      z = four (i .z) t;
-      seq = two (i .seq) t;
-      command = two (i .command) t;
-      frame = one (i .frame) t;
-      autocontinue = one (i .autocontinue) t;
-      kind = one (i .kind) t;
-    }
-  where
-    four : (v : ℕ) → v % 256 + 256 * (v / 256 % 256 + 256 * (v / 256 / 256 % 256 + 256 * (v / 256 / 256 / 256 % 256 + 256 * 0))) ≡ v % clockValues
-    four v = omega arith
-
-    two : (v : ℕ) → v % 256 + 256 * (v / 256 % 256 + 256 * 0) ≡ v % frameUnit
-    two v = omega arith
-
-    one : (v : ℕ) → v % 256 + 256 * 0 ≡ v % byteValues
-    one v = omega arith
-
+-- its bytes are the same
 stored-cut : (i : Item) → itemOf (cut i) ≡ itemOf i
 unfolding itemOf encode pack layoutOf
 stored-cut i =
@@ -131,6 +104,14 @@ stored-cut i =
       bytes-cut 1 (i .autocontinue),
       bytes-cut 1 (i .kind),
     )
+
+-- what a stored item says, whatever the numbers of the item that was stored
+pub stored-says : (i : Item) → itemIn (itemOf i) ≡ cut i
+unfolding layoutOf
+stored-says i =
+    ap itemIn (sym (stored-cut i))
+    ∙ item-reads-back (cut i)
+    (omega arith, (omega arith, (omega arith, (omega arith, (omega arith, (omega arith, (omega arith, (omega arith, (omega arith, (omega arith, (omega arith, (omega arith, (omega arith, (omega arith, (omega arith, tt)))))))))))))))
 
 -- the words of the stored item that words are, at the same place, are that stored item
 pub words-again :

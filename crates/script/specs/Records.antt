@@ -51,7 +51,7 @@ recordIn p =
 unfoldable pub pokeFits : (field index : ℕ) → Bool
 pokeFits field index = leb field 9 && ltb index 3 || (eqb field 10 || eqb field 11) && eqb index 0 || eqb field 12 && ltb index maxJumps
 
--- WRITE, "a length that is no multiple of 32 (b4 = 1, 2) or of 4 (b4 = 0, 4), a kind above 2, items past the kind's size, or a place past the array:
+-- WRITE, "a length that is no multiple of 32 (b4 = 1, 2) or of 4 (b4 = 0 ..), a kind above 2, items past the kind's size, or a place past the array:
 -- `? 9`". "b4 = 0 writes from word a; the payload is a row of words"
 unfoldable pub wordsFit : (at len : ℕ) → Bool
 wordsFit at len = eqb (len % wordBytes) 0 && leb (at + len / wordBytes) storeArray
