@@ -9,7 +9,7 @@ use lib.Dec.{eqb}
 use Rattle.rules.specs.Limits.{clockValues}
 use Rattle.rules.specs.Payload.{Bytes}
 use Rattle.rules.specs.Messages.{Item, itemIn}
-use Rattle.rules.specs.Words.{lastWord, commandIn, itemOfWords}
+use Rattle.rules.specs.Words.{lastWord, commandIn}
 use Rattle.rules.specs.Items.{jump, returnPoint, jumpsAmong}
 use Rattle.rules.specs.Fence.{returnPoints}
 use Rattle.rule_laws.specs.Words.{stored-says}
@@ -17,10 +17,10 @@ use Rattle.places.specs.Forms.{words}
 
 -- the command and param 1 of the stored item that eight words are, wherever it stands
 pub command-is : (w : List ℕ) (kind n : ℕ) → itemIn (words .stored w kind n) .command ≡ commandIn (getD w lastWord 0)
-command-is w kind n = ap (λ (i : Item). i .command) (stored-says (itemOfWords w kind n)) ∙ omega arith
+command-is w kind n = ap (λ (i : Item). i .command) (stored-says _) ∙ omega arith
 
 pub param1-is : (w : List ℕ) (kind n : ℕ) → itemIn (words .stored w kind n) .param1 ≡ getD w 0 0 % clockValues
-param1-is w kind n = ap (λ (i : Item). i .param1) (stored-says (itemOfWords w kind n))
+param1-is w kind n = ap (λ (i : Item). i .param1) (stored-says _)
 
 -- ---- counting items by their command
 
