@@ -5,7 +5,7 @@ use lib.ListN.{length}
 use lib.Dec.{eqb, leb, ltb}
 use Rattle.rules.specs.Limits.{flight, rally, storeWords, replyBytesMin, shortStore, outOfRange, shortReply, emptyPayload, notRead, notForUs}
 use Rattle.rules.specs.Payload.{Bytes}
-use Rattle.rules.specs.Messages.{Station, Item, Message, setCurrent, current, requestList, count, clearAll, ack, requestInt, itemInt, statustext, unknown, decode}
+use Rattle.rules.specs.Messages.{Station, Item, Message, partialList, setCurrent, current, requestList, count, clearAll, ack, requestInt, itemInt, statustext, unknown, decode}
 
 -- A call's arguments: "A message call adds own system and component, sender system and component, message id, payload and the
 -- clock; a timer call, a kind and the clock." Of store and reply buffer the lengths: "outcome 14 now counts words" (M-106).
@@ -33,6 +33,8 @@ pub data Request : Type 0 where
   asksList : Request
   -- COUNT
   announces : (n : ℕ) → Request
+  -- MISSION_WRITE_PARTIAL_LIST
+  changes : (start end : ℕ) → Request
   -- CLEAR_ALL
   clears : Request
   -- ACK
@@ -62,6 +64,7 @@ unfoldable pub heardMessage : (own from : Station) (now : ℕ) → Message → H
 heardMessage own from now (setCurrent to seq) = forUs own to (request from now flight (chooses seq))
 heardMessage own from now (requestList to kind) = forUs own to (request from now kind asksList)
 heardMessage own from now (count to n kind planNumber) = forUs own to (request from now kind (announces n))
+heardMessage own from now (partialList to start end kind) = forUs own to (request from now kind (changes start end))
 heardMessage own from now (clearAll to kind) = forUs own to (request from now kind clears)
 heardMessage own from now (ack to result kind planNumber) = forUs own to (request from now kind (acknowledges result))
 heardMessage own from now (requestInt to seq kind) = forUs own to (request from now kind (asksItem seq))

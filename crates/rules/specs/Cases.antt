@@ -4,6 +4,7 @@ pub mod Readings
 pub mod Guards
 pub mod Bounds
 pub mod Words
+pub mod Partial
 use Prim.Native.Nat.{ℕ}
 use mathlib.Core.Path.{_≡_, refl, _∙_}
 use mathlib.Core.List.{List, [], _∷_, map}
@@ -14,17 +15,17 @@ use Rattle.rules.specs.Limits.{storeWords, replyBytesMin, flight, fence}
 use Rattle.rules.specs.Payload.{Bytes, numberAt, bytesOf, significant, trim}
 use Rattle.rules.specs.Layouts.{setCurrentId, requestListId, countId, clearAllId, ackId, requestIntId, itemIntId, layoutOf, values, pack}
 use Rattle.rules.specs.Messages.{Station, station, Item, Message, setCurrent, requestList, count, clearAll, ack, requestInt, itemInt, encode, messageOf, decode, itemOf, itemIn}
-use Rattle.rules.specs.Model.{Model, Shown, Plan, Upload, idle, fresh, nextNumber, shownNumber, elapsed, wholeOk, isOthers, isOwn, withPlan, put, emptied, empty, choose, uploadInRange, inRange}
+use Rattle.rules.specs.Model.{Model, Shown, Plan, Upload, idle, fresh, nextNumber, shownNumber, elapsed, verdictOn, whole, wholeFault, isOthers, isOwn, withPlan, put, emptied, empty, choose, taskInRange, uploadInRange, inRange}
 use Rattle.rules.specs.NextCommand.{Command, commandOf, orOne, passedOver, runsAfter, meets, settle, search, next, reach, advance}
 use Rattle.rules.specs.Calls.{Call, message, timer, done, forUs, heardMessage, heard}
 use Rattle.rules.specs.Values.{signed, finite, atLeastZero, aboveZero, zeroTo, Whole, inWord, wholeOf, wholeFrom, wholeNumber}
 use Rattle.rules.specs.Items.{targetIn, paramOk, frameOk, jumpsAmong, placeFault, faultIn, faultAmong, fault}
 use Rattle.rules.specs.Fence.{runWith, readItem, readItems, returnPoints, fenceOk}
-use Rattle.rules.specs.Step.{Answer, says, commandIn, step, run, onCount, onValidItem, onItem, onAck, onClear, onList, onRequest, onSetCurrent, onKnown, kindOk, onMessage, onTimer, act, answers}
+use Rattle.rules.specs.Step.{Answer, says, commandIn, step, run, onCount, partOk, onPartial, onValidItem, onItem, onAck, onClear, onList, onRequest, onSetCurrent, onKnown, kindOk, onMessage, onTimer, act, answers}
 
 -- what a proof by computation unfolds: the rules, whole
 unfoldable pub computing : Unit {0}
-unfolding numberAt bytesOf significant trim layoutOf values pack messageOf encode decode itemOf itemIn signed finite atLeastZero aboveZero zeroTo inWord wholeOf wholeFrom wholeNumber targetIn paramOk frameOk jumpsAmong placeFault faultIn faultAmong fault runWith readItem readItems returnPoints fenceOk nextNumber shownNumber elapsed wholeOk isOthers isOwn withPlan put emptied empty choose uploadInRange inRange commandOf orOne passedOver runsAfter meets settle search next reach advance forUs heardMessage heard onCount onValidItem onItem onAck onClear onList onRequest onSetCurrent onKnown kindOk onMessage onTimer act step run answers ofBits
+unfolding numberAt bytesOf significant trim layoutOf values pack messageOf encode decode itemOf itemIn signed finite atLeastZero aboveZero zeroTo inWord wholeOf wholeFrom wholeNumber targetIn paramOk frameOk jumpsAmong placeFault faultIn faultAmong fault runWith readItem readItems returnPoints fenceOk nextNumber shownNumber elapsed verdictOn whole wholeFault isOthers isOwn withPlan put emptied empty choose taskInRange uploadInRange inRange commandOf orOne passedOver runsAfter meets settle search next reach advance forUs heardMessage heard onCount partOk onPartial onValidItem onItem onAck onClear onList onRequest onSetCurrent onKnown kindOk onMessage onTimer act step run answers ofBits
 computing = tt
 
 pub data Value : Type 0 where

@@ -80,6 +80,10 @@ clockValues = 2 ^ 32
 abbrev pub halfClock : ℕ
 halfClock = 2 ^ 31
 
+-- "signed 16-bit" (M-108): from here on a 16-bit pattern is a negative number
+abbrev pub halfShort : ℕ
+halfShort = 2 ^ 15
+
 abbrev pub lastNumber : ℕ
 lastNumber = 2 ^ 32 - 1
 

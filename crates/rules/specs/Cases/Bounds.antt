@@ -9,7 +9,7 @@ use lib.IntN.{pos, negsuc}
 use Rattle.rules.specs.Limits.{flight, fence, rally}
 use Rattle.rules.specs.Values.{float, Whole, integer, noValue, notWhole, wholeOf}
 use Rattle.rules.specs.Messages.{Item, count, ack, requestInt, itemInt}
-use Rattle.rules.specs.Model.{Model, Plan, idle, running, fresh}
+use Rattle.rules.specs.Model.{wholeTask, Model, Plan, idle, running, fresh}
 use Rattle.rules.specs.NextCommand.{fly, finished, stuck}
 use Rattle.rules.specs.Step.{Answer, refused, says, run, replyBytes}
 use Rattle.rules.specs.Cases.{computing, Case, numbers, wholes, answer, commands, _is_, Hold, tablet, sendsItem, asksForList, asksForItem, ticks, finishes, after, ordered, withFlight, f1, f2, f3, fNaN, fMinusZero, fMinusOne, itemWith, itemAs, waypoint, jumpTo, vertex, plansOf, resting, uploads, judges}
@@ -79,7 +79,7 @@ abbrev uploading : (kind count taken repeats : ℕ) → Model
 uploading kind n taken repeats =
     record {
       shown = fresh .shown;
-      uploads = set (idle ∷ idle ∷ idle ∷ []) kind (running (record { station = tablet; count = n; taken = replicate taken []; started = 0; repeats = repeats }));
+      uploads = set (idle ∷ idle ∷ idle ∷ []) kind (running (record { station = tablet; task = wholeTask n; next = taken; taken = replicate taken []; started = 0; repeats = repeats }));
     }
 
 -- a flight plan of this length, at an item, with its first and its last jump count

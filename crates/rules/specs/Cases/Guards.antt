@@ -11,7 +11,7 @@ use Rattle.rules.specs.Limits.{flight, fence, rally, storeWords, replyBy
 use Rattle.rules.specs.Payload.{Bytes}
 use Rattle.rules.specs.Layouts.{requestListId}
 use Rattle.rules.specs.Messages.{Station, station, Item, current, count, ack, requestInt, statustext}
-use Rattle.rules.specs.Model.{Model, Shown, Upload, idle, running, fresh, uploadOf}
+use Rattle.rules.specs.Model.{wholeTask, Model, Shown, Upload, idle, running, fresh, uploadOf}
 use Rattle.rules.specs.NextCommand.{fly, wait, near, turn, speed, servo, finished, stuck}
 use Rattle.rules.specs.Calls.{message}
 use Rattle.rules.specs.Step.{Answer, refused, silent, says, run, answers, replyBytes}
@@ -53,7 +53,7 @@ loaded =
 
 -- the tablet uploads three items of fence, and the first is taken
 abbrev fenceRun : (started repeats : ℕ) → Upload
-fenceRun started repeats = running (record { station = tablet; count = 3; taken = storedCircle 0 ∷ []; started = started; repeats = repeats })
+fenceRun started repeats = running (record { station = tablet; task = wholeTask 3; next = 1; taken = storedCircle 0 ∷ []; started = started; repeats = repeats })
 
 abbrev replacing : (started repeats : ℕ) → Model
 replacing started repeats = record { shown = loaded; uploads = idle ∷ fenceRun started repeats ∷ idle ∷ [] }
@@ -93,7 +93,7 @@ guards =
     ∷ (answer (hears (station 2 1) 2 0) is answer (says (count tablet 0 0 0)))
     -- repeats are 0 after a taken item: five requests again, and the sixth expiry ends the upload
     ∷ (upload (uploadOf (run (replacing 100 5) (sendsItem tablet 200 (circle 1) ∷ [])) fence)
-    is upload (running (record { station = tablet; count = 3; taken = storedCircle 0 ∷ storedCircle 1 ∷ []; started = 200; repeats = 0 })))
+    is upload (running (record { station = tablet; task = wholeTask 3; next = 2; taken = storedCircle 0 ∷ storedCircle 1 ∷ []; started = 200; repeats = 0 })))
     ∷ (replies (answers (replacing 100 5) (sendsItem tablet 200 (circle 1) ∷ ticks 450 fence ∷ ticks 700 fence ∷ ticks 950 fence ∷ ticks 1200 fence ∷ ticks 1450 fence ∷ ticks 1699 fence ∷ ticks 1700 fence ∷ ticks 1950 fence ∷ []))
     is replies (says (requestInt tablet 2 1) ∷ says (requestInt tablet 2 1) ∷ says (requestInt tablet 2 1) ∷ says (requestInt tablet 2 1) ∷ says (requestInt tablet 2 1) ∷ says (requestInt tablet 2 1) ∷ silent ∷ says (ack tablet 15 1 0) ∷ silent ∷ []))
     -- ACK 15 has number 0 on a plan that has a number, and so has an ACK with a reason; the plan stands

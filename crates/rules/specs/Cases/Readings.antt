@@ -9,7 +9,7 @@ use Rattle.rules.specs.Limits.{flight, fence, rally, everyKind, storeWor
 use Rattle.rules.specs.Payload.{Bytes, trim}
 use Rattle.rules.specs.Layouts.{currentId, countId, clearAllId, ackId, requestIntId, statustextId}
 use Rattle.rules.specs.Messages.{station, count, ack, current, requestInt, itemInt, itemOf}
-use Rattle.rules.specs.Model.{Model, Upload, idle, running, fresh, uploadOf, elapsed}
+use Rattle.rules.specs.Model.{Model, wholeTask, Upload, idle, running, fresh, uploadOf, elapsed}
 use Rattle.rules.specs.Calls.{Call, message, timer, done}
 use Rattle.rules.specs.Step.{refused, silent, says, refusalText, run, replyBytes}
 use Rattle.rules.specs.Cases.{computing, Case, number, bytes, answer, shown, upload, model, _is_, Hold, vehicle, tablet, neighbour, sends, sendsCount, sendsItem, sendsAck, sendsClear, asksForList, asksForItem, setsCurrent, ticks, finishes, after, f2, f3, f4, fNaN, fMinusZero, fMinusOne, itemAs, waypoint, jumpTo, vertex, circle, planWith, plansOf, flying, uploads, judges, verdict}
@@ -19,7 +19,7 @@ use Rattle.rules.specs.Cases.Guards.{guards-hold}
 
 -- the tablet uploads two fence items, the first is taken
 abbrev fencingRun : (started repeats : ℕ) → Upload
-fencingRun started repeats = running (record { station = tablet; count = 2; taken = itemOf (circle 0) ∷ []; started = started; repeats = repeats })
+fencingRun started repeats = running (record { station = tablet; task = wholeTask 2; next = 1; taken = itemOf (circle 0) ∷ []; started = started; repeats = repeats })
 
 abbrev fencingAt : (started repeats : ℕ) → Model
 fencingAt started repeats = record { shown = flying .shown; uploads = idle ∷ fencingRun started repeats ∷ idle ∷ [] }
@@ -37,7 +37,7 @@ abbrev jumping : Model
 jumping =
     record {
       shown = fresh .shown;
-      uploads = running (record { station = tablet; count = 17; taken = replicate 15 (itemOf (jumpTo 1 0 0)); started = 0; repeats = 0 }) ∷ idle ∷ idle ∷ [];
+      uploads = running (record { station = tablet; task = wholeTask 17; next = 15; taken = replicate 15 (itemOf (jumpTo 1 0 0)); started = 0; repeats = 0 }) ∷ idle ∷ idle ∷ [];
     }
 
 -- a message call with other lengths than the least
@@ -109,7 +109,7 @@ readings =
     ∷ (answer (after fencing [] (sendsClear tablet 255)) is answer (verdict 0 255))
     ∷ (answer (after fencing [] (sendsClear neighbour 255)) is answer (says (ack neighbour 14 255 0)))
     ∷ (upload (uploadOf (run fencing (sendsCount neighbour 5 rally 1 ∷ sendsClear neighbour 255 ∷ [])) rally)
-    is upload (running (record { station = neighbour; count = 1; taken = []; started = 5; repeats = 0 })))
+    is upload (running (record { station = neighbour; task = wholeTask 1; next = 0; taken = []; started = 5; repeats = 0 })))
     -- emptying the fence resets no progress of the flight
     ∷ (shown (run fencing (sendsClear tablet fence ∷ []) .shown) is shown (flying .shown))
     -- an item: before any upload; of another station; out of turn before it is judged; late, but before a timer call
