@@ -5,8 +5,8 @@ use mathlib.Core.Bool.{Bool, not, _&&_}
 use lib.ListN.{length}
 use lib.Dec.{eqb, ltb}
 use Rattle.rules.specs.Limits.{flight, storeWords, replyBytesMin}
-use Rattle.rules.specs.Messages.{Station, Message, setCurrent, current, requestList, count, clearAll, ack, requestInt, itemInt, statustext, unknown, decode}
-use Rattle.rules.specs.Calls.{Call, message, timer, done, Request, chooses, asksList, announces, clears, acknowledges, asksItem, brings, Heard, refuses, request, expiry, commandDone, oursOrAll, forUs, heardMessage, isKnown, heard}
+use Rattle.rules.specs.Messages.{Station, Message, partialList, setCurrent, current, requestList, count, clearAll, ack, requestInt, itemInt, statustext, unknown, decode}
+use Rattle.rules.specs.Calls.{Call, message, timer, done, Request, chooses, asksList, announces, changes, clears, acknowledges, asksItem, brings, Heard, refuses, request, expiry, commandDone, oursOrAll, forUs, heardMessage, isKnown, heard}
 use Rattle.rule_laws.specs.Tests.{either}
 
 abbrev pub OfItsKind : (kind : ℕ) → Request → Type 0
@@ -14,6 +14,7 @@ OfItsKind kind (brings item) = item .kind ≡ kind
 OfItsKind kind (chooses seq) = Unit {0}
 OfItsKind kind asksList = Unit {0}
 OfItsKind kind (announces n) = Unit {0}
+OfItsKind kind (changes start end) = Unit {0}
 OfItsKind kind clears = Unit {0}
 OfItsKind kind (acknowledges result) = Unit {0}
 OfItsKind kind (asksItem seq) = Unit {0}
@@ -34,6 +35,7 @@ module _ (own from : Station) (now : ℕ) where
   message-kind (setCurrent to seq) = for-us-kind to flight (chooses seq) tt
   message-kind (requestList to kind) = for-us-kind to kind asksList tt
   message-kind (count to n kind planNumber) = for-us-kind to kind (announces n) tt
+  message-kind (partialList to start end kind) = for-us-kind to kind (changes start end) tt
   message-kind (clearAll to kind) = for-us-kind to kind clears tt
   message-kind (ack to result kind planNumber) = for-us-kind to kind (acknowledges result) tt
   message-kind (requestInt to seq kind) = for-us-kind to kind (asksItem seq) tt

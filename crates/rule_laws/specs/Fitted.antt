@@ -3,21 +3,20 @@ use Prim.Native.Nat.{ℕ, zero, suc, _+_, _<_}
 use native.Mathlib.Omega.{arith}
 use mathlib.Core.Path.{_≡_, subst}
 use mathlib.Core.List.{List, [], _∷_, _++_}
-use mathlib.Core.Bool.{true, not, _&&_}
-use lib.ListN.{getD, set}
+use mathlib.Core.Bool.{Bool, true, false, not, _&&_}
+use lib.ListN.{getD, set, take, drop}
 use lib.Dec.{eqb, ltb}
 use borrow.Author.Tests.{eqb-false}
 use Rattle.rules.specs.Limits.{flight, sizeOf, maxRepeats, expiryMs, clockValues, lastNumber, accepted}
 use Rattle.rules.specs.Payload.{Bytes}
 use Rattle.rules.specs.Layouts.{layoutOf, itemIntId}
 use Rattle.rules.specs.Messages.{Station, station, sameStation, Item, itemInt, valuesOf, encode, itemOf}
-use Rattle.rules.specs.Items.{jumpsAmong, fault}
-use Rattle.rules.specs.Model.{Plan, Run, Upload, idle, running, Shown, Model, noPlan, planOf, uploadOf, lengthOf, fresh, nextNumber, elapsed, expected, isLast, whole, wholeOk, isOthers, isOwn, withPlan, put, emptied, empty, choose, inRange}
+use Rattle.rules.specs.Model.{Plan, Task, wholeTask, partTask, Run, Upload, idle, running, Shown, Model, noPlan, planOf, uploadOf, lengthOf, fresh, nextNumber, elapsed, expected, isLast, verdictOn, whole, wholeFault, isOthers, isOwn, withPlan, put, emptied, empty, choose, inRange}
 use Rattle.rules.specs.NextCommand.{Found, nowhere, found, next, reach, advance}
-use Rattle.rules.specs.Calls.{Call, Request, chooses, asksList, announces, clears, acknowledges, asksItem, brings, Heard, refuses, request, expiry, commandDone, heard}
-use Rattle.rules.specs.Step.{Stepped, withUpload, idleAt, onCount, onValidItem, onItem, onAck, onClear, anyOthers, covered, onList, onRequest, onSetCurrent, onKnown, kindOk, onMessage, onTimer, act, step}
+use Rattle.rules.specs.Calls.{Call, Request, chooses, asksList, announces, changes, clears, acknowledges, asksItem, brings, Heard, refuses, request, expiry, commandDone, heard}
+use Rattle.rules.specs.Step.{Stepped, withUpload, idleAt, onCount, partOk, onPartial, onValidItem, onItem, onAck, onClear, anyOthers, covered, onList, onRequest, onSetCurrent, onKnown, kindOk, onMessage, onTimer, act, step}
 use Rattle.rule_laws.specs.Tests.{either}
-use Rattle.rule_laws.specs.Lists.{each-set, each-append}
+use Rattle.rule_laws.specs.Lists.{each-set, each-one, each-join, each-take, each-drop}
 use Rattle.rule_laws.specs.Layout.{pack-bytes}
 use Rattle.rule_laws.specs.Heard.{HeardFits, heard-fits}
 use Rattle.rule_laws.specs.Fitting.{Fits, AllBytes, StationFits, PlanFits, RunFits, UploadFits, ModelFits, CallFits, CallsFit}
@@ -35,23 +34,37 @@ next-fits : (n : ℕ) → n < clockValues → nextNumber n < clockValues
 unfolding nextNumber
 next-fits n h = either (λ (k : ℕ). k < clockValues) (eqb n lastNumber) (λ e. omega arith) (λ e. let other : n ≡ lastNumber → ⊥ = eqb-false n lastNumber e in omega arith)
 
+-- every item of a list is bytes
+abbrev pub ItemsFit : List Bytes → Type 0
+ItemsFit items = (n : ℕ) → AllBytes (getD items n [])
+
 -- the items taken and one more
-pub whole-bytes : (r : Run) (b : Bytes) → RunFits r → AllBytes b → (n : ℕ) → AllBytes (getD (whole r b) n [])
-whole-bytes r b fits small = each-append AllBytes (r .taken) b [] (fits .taken) no-bytes small
+pub more-bytes : (r : Run) (b : Bytes) → RunFits r → AllBytes b → ItemsFit (r .taken ++ (b ∷ []))
+more-bytes r b fits small = each-join AllBytes (r .taken) (b ∷ []) [] (fits .taken) (each-one AllBytes b [] small no-bytes)
+
+-- what is put in
+pub whole-bytes : (t : Task) (old got : List Bytes) → ItemsFit old → ItemsFit got → ItemsFit (whole t old got)
+unfolding whole
+whole-bytes t old got all more =
+    either ItemsFit (t .partial)
+    (λ e. each-join AllBytes (take (t .first) old ++ got) (drop (t .last + 1) old) []
+    (each-join AllBytes (take (t .first) old) got [] (each-take AllBytes (t .first) old [] no-bytes all) more)
+    (each-drop AllBytes (t .last + 1) old [] no-bytes all))
+    (λ e. more)
 
 -- ---- the plans
 
 abbrev PlansFit : Shown → Type 0
 PlansFit s = (kind : ℕ) → PlanFits (planOf s kind)
 
-plan-fits : (s : Shown) (kind : ℕ) (p : Plan) → PlanFits p → PlansFit s → PlansFit (withPlan kind p s)
+plan-fits : (s : Shown) (partial : Bool) (kind : ℕ) (p : Plan) → PlanFits p → PlansFit s → PlansFit (withPlan partial kind p s)
 unfolding withPlan
-plan-fits s kind p fits all j = each-set PlanFits (s .plans) kind j p noPlan fits all
+plan-fits s partial kind p fits all j = each-set PlanFits (s .plans) kind j p noPlan fits all
 
-pub put-fits : (s : Shown) (kind : ℕ) (items : List Bytes) → ((n : ℕ) → AllBytes (getD items n [])) → PlansFit s → PlansFit (put kind items s)
+pub put-fits : (s : Shown) (partial : Bool) (kind : ℕ) (items : List Bytes) → ItemsFit items → PlansFit s → PlansFit (put partial kind items s)
 unfolding put
-put-fits s kind items small all =
-    plan-fits s kind (record { items = items; number = nextNumber (planOf s kind .number) })
+put-fits s partial kind items small all =
+    plan-fits s partial kind (record { items = items; number = nextNumber (planOf s kind .number) })
     (record { number = next-fits (planOf s kind .number) (all kind .number); items = small }) all
 
 empty-fits : (s : Shown) (ks : List ℕ) → PlansFit s → PlansFit (empty ks s)
@@ -59,7 +72,7 @@ unfolding empty emptied
 empty-fits s [] all = all
 empty-fits s (kind ∷ ks) all =
     let p : Plan = record { items = []; number = planOf s kind .number } in
-    empty-fits (withPlan kind p s) ks (plan-fits s kind p (record { number = all kind .number; items = λ n. no-bytes }) all)
+    empty-fits (withPlan false kind p s) ks (plan-fits s false kind p (record { number = all kind .number; items = λ n. no-bytes }) all)
 
 reach-fits : (s : Shown) (f : Found) → PlansFit s → PlansFit (reach f s)
 unfolding reach
@@ -92,30 +105,44 @@ module _ (m : Model) (fits : ModelFits m) where
   replaced-kept kind s all = record { plans = all; uploads = ended-kept kind .uploads }
 
   module _ (from : Station) (now kind : ℕ) (sender : StationFits from) (time : now < clockValues) where
+    opens-kept : (t : Task) → ModelFits (withUpload kind (running (record { station = from; task = t; next = t .first; taken = []; started = now; repeats = 0 })) m)
+    opens-kept t =
+        upload-kept kind (running (record { station = from; task = t; next = t .first; taken = []; started = now; repeats = 0 }))
+        (record { station = sender; started = time; taken = λ i. no-bytes })
+
     count-kept : (n : ℕ) → Kept (onCount m from now kind n)
     unfolding onCount
     count-kept n =
         either Kept (isOthers from (uploadOf m kind)) (λ t. fits)
         (λ t. either Kept (ltb (sizeOf kind) n) (λ t. ended-kept kind)
         (λ t. either Kept (eqb n 0) (λ t. replaced-kept kind (empty (kind ∷ []) (m .shown)) (empty-fits (m .shown) (kind ∷ []) (fits .plans)))
-        (λ t. upload-kept kind (running (record { station = from; count = n; taken = []; started = now; repeats = 0 }))
-        (record { station = sender; started = time; taken = λ i. no-bytes }))))
+        (λ t. opens-kept (wholeTask n))))
+
+    part-kept : (start end : ℕ) → Kept (onPartial m from now kind start end)
+    unfolding onPartial
+    part-kept start end =
+        let len = lengthOf (m .shown) kind in
+        either Kept (isOthers from (uploadOf m kind)) (λ t. fits)
+        (λ t. either Kept (not (partOk len start end)) (λ t. ended-kept kind) (λ t. opens-kept (partTask len start end)))
 
     valid-kept : (r : Run) (b : Bytes) → RunFits r → AllBytes b → Kept (onValidItem m from now kind r b)
     unfolding onValidItem
     valid-kept r b h small =
-        let all = whole-bytes r b h small in
+        let got = r .taken ++ (b ∷ []) in
+        let more = more-bytes r b h small in
+        let items = whole (r .task) (planOf (m .shown) kind .items) got in
+        let all = whole-bytes (r .task) (planOf (m .shown) kind .items) got (fits .plans kind .items) more in
         either Kept (not (isLast r))
-        (λ t. upload-kept kind (running (record { station = r .station; count = r .count; taken = whole r b; started = now; repeats = 0 }))
-        (record { station = h .station; started = time; taken = all }))
-        (λ t. either Kept (wholeOk kind (whole r b))
-        (λ t. replaced-kept kind (put kind (whole r b) (m .shown)) (put-fits (m .shown) kind (whole r b) all (fits .plans))) (λ t. ended-kept kind))
+        (λ t. upload-kept kind (running (record { station = r .station; task = r .task; next = expected r + 1; taken = got; started = now; repeats = 0 }))
+        (record { station = h .station; started = time; taken = more }))
+        (λ t. either Kept (eqb (wholeFault kind (r .task) items) accepted)
+        (λ t. replaced-kept kind (put (r .task .partial) kind items (m .shown)) (put-fits (m .shown) (r .task .partial) kind items all (fits .plans))) (λ t. ended-kept kind))
 
     item-kept : (u : Upload) → UploadFits u → (item : Item) → Kept (onItem u m from now kind item)
     unfolding onItem
     item-kept idle h item = fits
     item-kept (running r) h item =
-        let verdict = fault kind (r .count) (expected r) (jumpsAmong (r .taken)) item in
+        let verdict = verdictOn kind (r .task) (expected r) (r .taken) item in
         either Kept (not (sameStation from (r .station))) (λ t. fits)
         (λ t. either Kept (not (eqb (item .seq) (expected r))) (λ t. fits)
         (λ t. either Kept (not (eqb verdict accepted)) (λ t. ended-kept kind) (λ t. valid-kept r (itemOf item) h (item-bytes item))))
@@ -128,6 +155,7 @@ module _ (m : Model) (fits : ModelFits m) where
         known (chooses seq) = either Kept (ltb seq (lengthOf (m .shown) flight)) (λ t. shown-kept (choose seq (m .shown)) (fits .plans)) (λ t. fits)
         known asksList = fits
         known (announces n) = count-kept n
+        known (changes start end) = part-kept start end
         known clears =
             either Kept (anyOthers m from (covered kind)) (λ t. fits)
             (λ t. record { plans = empty-fits (m .shown) (covered kind) (fits .plans); uploads = idle-fits (m .uploads) (covered kind) (fits .uploads) })
@@ -141,7 +169,7 @@ module _ (m : Model) (fits : ModelFits m) where
   timer-kept (running r) h now kind time =
       either Kept (ltb (elapsed now (r .started)) expiryMs) (λ t. fits)
       (λ t. either Kept (ltb (r .repeats) maxRepeats)
-      (λ t. upload-kept kind (running (record { station = r .station; count = r .count; taken = r .taken; started = now; repeats = r .repeats + 1 }))
+      (λ t. upload-kept kind (running (record { station = r .station; task = r .task; next = r .next; taken = r .taken; started = now; repeats = r .repeats + 1 }))
       (record { station = h .station; started = time; taken = h .taken }))
       (λ t. ended-kept kind))
 

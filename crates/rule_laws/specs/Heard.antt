@@ -9,7 +9,7 @@ use Rattle.rules.specs.Limits.{flight, storeWords, replyBytesMin, byteValues, c
 use Rattle.rules.specs.Payload.{Bytes, numberAt}
 use Rattle.rules.specs.Layouts.{layoutOf, values}
 use Rattle.rules.specs.Messages.{Station, station, Message, itemInt, messageOf, decode, itemIn}
-use Rattle.rules.specs.Calls.{Call, message, timer, done, Request, chooses, asksList, announces, clears, acknowledges, asksItem, brings, Heard, refuses, request, expiry, commandDone, oursOrAll, forUs, heardMessage, isKnown, heard}
+use Rattle.rules.specs.Calls.{Call, message, timer, done, Request, chooses, asksList, announces, changes, clears, acknowledges, asksItem, brings, Heard, refuses, request, expiry, commandDone, oursOrAll, forUs, heardMessage, isKnown, heard}
 use Rattle.rule_laws.specs.Tests.{either}
 use Rattle.rule_laws.specs.Decode.{decode-cases}
 use Rattle.rule_laws.specs.Numbers.{numberAt-fits}
@@ -22,6 +22,7 @@ RequestFits (brings item) = Fits (itemInt (station 0 0) 0 item)
 RequestFits (chooses seq) = Unit {0}
 RequestFits asksList = Unit {0}
 RequestFits (announces n) = Unit {0}
+RequestFits (changes start end) = Unit {0}
 RequestFits clears = Unit {0}
 RequestFits (acknowledges result) = Unit {0}
 RequestFits (asksItem seq) = Unit {0}
@@ -47,6 +48,7 @@ module _ (own from : Station) (now : ℕ) (sender : StationFits from) (time : no
       let n : (at : ℕ) → numberAt 1 at p < byteValues = λ at. numberAt-fits 1 at p small in
       let to : (a b : ℕ) → Station = λ a b. station (numberAt 1 a p) (numberAt 1 b p) in
       decode-cases HeardOk p
+      (for-us (to 4 5) (numberAt 1 6 p) (changes (numberAt 2 0 p) (numberAt 2 2 p)) (n 6) tt)
       (for-us (to 2 3) flight (chooses (numberAt 2 0 p)) (omega arith) tt)
       tt
       (for-us (to 0 1) (numberAt 1 2 p) asksList (n 2) tt)

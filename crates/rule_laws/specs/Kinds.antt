@@ -32,7 +32,12 @@ size-small (suc (suc (suc n))) = omega arith
 
 -- what the range test asks of a kind
 abbrev pub kindRanged : Model → ℕ → Bool
-kindRanged m kind = leb (lengthOf (m .shown) kind) (sizeOf kind) && uploadInRange kind (uploadOf m kind)
+kindRanged m kind = leb (lengthOf (m .shown) kind) (sizeOf kind) && uploadInRange kind (lengthOf (m .shown) kind) (uploadOf m kind)
+
+-- a plan's length is at most its size, and an upload is in its ranges
+pub record KindRanges (m : Model) (kind : ℕ) : Type 0 where
+  pub most : lengthOf (m .shown) kind ≤ sizeOf kind
+  pub upload : uploadInRange kind (lengthOf (m .shown) kind) (uploadOf m kind) ≡ true
 
 ranged-three : (m : Model) → every (kindRanged m) kinds ≡ true → (kind : ℕ) → isKnown kind ≡ true → kindRanged m kind ≡ true
 ranged-three m e =
@@ -40,14 +45,16 @@ ranged-three m e =
     let second = both (kindRanged m fence) (kindRanged m rally && true) (first .1) in
     each-kind (λ (kind : ℕ). kindRanged m kind ≡ true) (first .0) (second .0) (both (kindRanged m rally) true (second .1) .0)
 
--- a plan's length is at most its size, and an upload is in its ranges
-pub ranged-kind : (m : Model) → inRange m ≡ true → (kind : ℕ) → isKnown kind ≡ true → kindRanged m kind ≡ true
+pub ranged-kind : (m : Model) → inRange m ≡ true → (kind : ℕ) → isKnown kind ≡ true → KindRanges m kind
 unfolding inRange
-ranged-kind m e =
+ranged-kind m e kind known =
     let plans = every (kindRanged m) kinds in
     let place = ltb (m .shown .current) (lengthOf (m .shown) flight) || eqb (m .shown .current) 0 in
     let runs = every (λ (n : ℕ). leb n maxRuns) (m .shown .counts) in
-    ranged-three m (both plans place (both (plans && place) runs e .0) .0)
+    let parts =
+        both (leb (lengthOf (m .shown) kind) (sizeOf kind)) (uploadInRange kind (lengthOf (m .shown) kind) (uploadOf m kind))
+        (ranged-three m (both plans place (both (plans && place) runs e .0) .0) kind known) in
+    record { most = leb-true (lengthOf (m .shown) kind) (sizeOf kind) (parts .0); upload = parts .1 }
 
 -- the kinds that an allowed clear covers are known
 pub covered-known : (kind : ℕ) → kindOk kind clears ≡ true → every isKnown (covered kind) ≡ true

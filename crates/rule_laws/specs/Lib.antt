@@ -7,6 +7,7 @@ pub mod Trim
 pub mod Layout
 pub mod Decode
 pub mod Kinds
+pub mod Tasks
 pub mod Written
 pub mod Heard
 pub mod Brought

@@ -4,7 +4,7 @@ use native.Mathlib.Nat.{not-suc-le-zero, le-of-suc-le-suc}
 use mathlib.Core.Path.{_≡_, refl}
 use mathlib.Core.List.{List, [], _∷_, _++_}
 use mathlib.Core.Bool.{Bool, true, cond}
-use lib.ListN.{length, getD, set}
+use lib.ListN.{length, getD, set, take, drop}
 use lib.Dec.{eqb, eqb·zero-suc, eqb·suc-zero, eqb·suc-suc}
 use Rattle.rules.specs.Model.{every}
 use Rattle.rule_laws.specs.Tests.{both}
@@ -25,12 +25,26 @@ each-set P (x ∷ l) zero (suc j) a d p all = all (suc j)
 each-set P (x ∷ l) (suc k) zero a d p all = all 0
 each-set P (x ∷ l) (suc k) (suc j) a d p all = each-set P l k j a d p (λ i. all (suc i))
 
--- and after it was appended
-pub each-append : {A : Type 0} (P : A → Type 0) (l : List A) (a d : A) → ((i : ℕ) → P (getD l i d)) → P d → P a → (j : ℕ) → P (getD (l ++ (a ∷ [])) j d)
-each-append P [] a d all q p zero = p
-each-append P [] a d all q p (suc j) = q
-each-append P (x ∷ l) a d all q p zero = all 0
-each-append P (x ∷ l) a d all q p (suc j) = each-append P l a d (λ i. all (suc i)) q p j
+-- so it does of a list of one, of two lists joined, and of a list's front and rest
+pub each-one : {A : Type 0} (P : A → Type 0) (a d : A) → P a → P d → (j : ℕ) → P (getD (a ∷ []) j d)
+each-one P a d p q zero = p
+each-one P a d p q (suc j) = q
+
+pub each-join : {A : Type 0} (P : A → Type 0) (l m : List A) (d : A) → ((i : ℕ) → P (getD l i d)) → ((i : ℕ) → P (getD m i d)) → (j : ℕ) → P (getD (l ++ m) j d)
+each-join P [] m d all more j = more j
+each-join P (x ∷ l) m d all more zero = all 0
+each-join P (x ∷ l) m d all more (suc j) = each-join P l m d (λ i. all (suc i)) more j
+
+pub each-take : {A : Type 0} (P : A → Type 0) (n : ℕ) (l : List A) (d : A) → P d → ((i : ℕ) → P (getD l i d)) → (j : ℕ) → P (getD (take n l) j d)
+each-take P zero l d q all j = q
+each-take P (suc n) [] d q all j = q
+each-take P (suc n) (x ∷ l) d q all zero = all 0
+each-take P (suc n) (x ∷ l) d q all (suc j) = each-take P n l d q (λ i. all (suc i)) j
+
+pub each-drop : {A : Type 0} (P : A → Type 0) (n : ℕ) (l : List A) (d : A) → P d → ((i : ℕ) → P (getD l i d)) → (j : ℕ) → P (getD (drop n l) j d)
+each-drop P zero l d q all j = all j
+each-drop P (suc n) [] d q all j = q
+each-drop P (suc n) (x ∷ l) d q all j = each-drop P n l d q (λ i. all (suc i)) j
 
 pub every-set : (test : ℕ → Bool) (l : List ℕ) (i v : ℕ) → test v ≡ true → every test l ≡ true → every test (set l i v) ≡ true
 every-set test [] i v h e = refl

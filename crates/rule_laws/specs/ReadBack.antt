@@ -7,7 +7,7 @@ use lib.ListN.{length, getD, length-append}
 use lib.Seq.{take-at, getD-at}
 use Rattle.rules.specs.Payload.{Bytes, trim}
 use Rattle.rules.specs.Layouts.{Field, layoutOf, values, pack, textChars, itemIntId, statustextId}
-use Rattle.rules.specs.Messages.{station, Item, Message, setCurrent, current, requestList, count, clearAll, ack, requestInt, itemInt, statustext, unknown, idOf, valuesOf, itemFrom, messageOf, encode, decode, itemOf, itemIn}
+use Rattle.rules.specs.Messages.{station, Item, Message, partialList, setCurrent, current, requestList, count, clearAll, ack, requestInt, itemInt, statustext, unknown, idOf, valuesOf, itemFrom, messageOf, encode, decode, itemOf, itemIn}
 use Rattle.rule_laws.specs.Numbers.{numberAt-agree}
 use Rattle.rule_laws.specs.Trim.{getD-trim}
 use Rattle.rule_laws.specs.Layout.{FitFields, layouts-follow, values-pack}
@@ -31,6 +31,7 @@ fit-length (f ∷ fs) (v ∷ vs) h = ap suc (fit-length fs vs (h .1))
 -- a message is the message of its id with its values
 same-message : (m : Message) → Fits m → messageOf (idOf m) (valuesOf m) ≡ m
 unfolding messageOf layoutOf
+same-message (partialList to start end kind) h = refl
 same-message (setCurrent to seq) h = refl
 same-message (current seq total state mode mission fence rally) h = refl
 same-message (requestList to kind) h = refl

@@ -1,17 +1,17 @@
 -- Refusals: only a call that is heard as a refusal is answered by one, and then nothing changes.
 use Prim.Native.Nat.{ℕ, _≤_}
 use mathlib.Core.Path.{_≡_, refl, sym, _∙_}
+use mathlib.Core.List.{[], _∷_, _++_}
 use mathlib.Core.Bool.{Bool, true, false, true≢false, not, cond, _&&_}
 use lib.Dec.{eqb, ltb}
 use borrow.Author.Tests.{ltb-false}
 use Rattle.rules.specs.Limits.{flight, sizeOf, maxRepeats, expiryMs, storeWords, accepted, shortStore, outOfRange}
 use Rattle.rules.specs.Payload.{Bytes}
 use Rattle.rules.specs.Messages.{Station, sameStation, Item, count, itemOf}
-use Rattle.rules.specs.Items.{jumpsAmong, fault}
-use Rattle.rules.specs.Model.{Run, Upload, idle, running, Model, uploadOf, lengthOf, elapsed, expected, isLast, whole, wholeOk, isOthers, isOwn}
-use Rattle.rules.specs.Calls.{Call, message, timer, done, storeLent, Request, chooses, asksList, announces, clears, acknowledges, asksItem, brings, Heard, refuses, heard}
+use Rattle.rules.specs.Model.{Run, Upload, idle, running, Model, planOf, uploadOf, lengthOf, elapsed, expected, isLast, verdictOn, whole, wholeFault, isOthers, isOwn}
+use Rattle.rules.specs.Calls.{Call, message, timer, done, storeLent, Request, chooses, asksList, announces, changes, clears, acknowledges, asksItem, brings, Heard, refuses, heard}
 use Rattle.rules.specs.NextCommand.{stuck}
-use Rattle.rules.specs.Step.{Answer, refused, silent, says, orders, isRefused, commandIn, Stepped, onCount, onValidItem, onItem, onAck, onClear, anyOthers, covered, onList, onRequest, onSetCurrent, onKnown, kindOk, onMessage, onTimer}
+use Rattle.rules.specs.Step.{Answer, refused, silent, says, orders, isRefused, commandIn, Stepped, onCount, partOk, onPartial, onValidItem, onItem, onAck, onClear, anyOthers, covered, onList, onRequest, onSetCurrent, onKnown, kindOk, onMessage, onTimer}
 use Rattle.rule_laws.specs.Tests.{either}
 
 -- silence or a message: no refusal, and no command
@@ -45,15 +45,22 @@ module _ (m : Model) (from : Station) (now kind : ℕ) where
   count-answered n =
       either Answered (isOthers from (uploadOf m kind)) (λ t. refl) (λ t. either Answered (ltb (sizeOf kind) n) (λ t. refl) (λ t. either Answered (eqb n 0) (λ t. refl) (λ t. refl)))
 
+  part-answered : (start end : ℕ) → Answered (onPartial m from now kind start end)
+  unfolding onPartial
+  part-answered start end =
+      either Answered (isOthers from (uploadOf m kind)) (λ t. refl) (λ t. either Answered (not (partOk (lengthOf (m .shown) kind) start end)) (λ t. refl) (λ t. refl))
+
   valid-answered : (r : Run) (b : Bytes) → Answered (onValidItem m from now kind r b)
   unfolding onValidItem
-  valid-answered r b = either Answered (not (isLast r)) (λ t. refl) (λ t. either Answered (wholeOk kind (whole r b)) (λ t. refl) (λ t. refl))
+  valid-answered r b =
+      let verdict = wholeFault kind (r .task) (whole (r .task) (planOf (m .shown) kind .items) (r .taken ++ (b ∷ []))) in
+      either Answered (not (isLast r)) (λ t. refl) (λ t. either Answered (eqb verdict accepted) (λ t. refl) (λ t. refl))
 
   item-answered : (u : Upload) (item : Item) → Answered (onItem u m from now kind item)
   unfolding onItem
   item-answered idle item = refl
   item-answered (running r) item =
-      let verdict = fault kind (r .count) (expected r) (jumpsAmong (r .taken)) item in
+      let verdict = verdictOn kind (r .task) (expected r) (r .taken) item in
       either Answered (not (sameStation from (r .station))) (λ t. refl)
       (λ t. either Answered (not (eqb (item .seq) (expected r))) (λ t. refl)
       (λ t. either Answered (not (eqb verdict accepted)) (λ t. refl) (λ t. valid-answered r (itemOf item))))
@@ -63,6 +70,7 @@ module _ (m : Model) (from : Station) (now kind : ℕ) where
   known-answered (chooses seq) = either Answered (ltb seq (lengthOf (m .shown) flight)) (λ t. refl) (λ t. refl)
   known-answered asksList = refl
   known-answered (announces n) = count-answered n
+  known-answered (changes start end) = part-answered start end
   known-answered clears = either Answered (anyOthers m from (covered kind)) (λ t. refl) (λ t. refl)
   known-answered (acknowledges result) = either Answered (isOwn from (uploadOf m kind) && not (eqb result accepted)) (λ t. refl) (λ t. refl)
   known-answered (asksItem seq) = either Answered (ltb seq (lengthOf (m .shown) kind)) (λ t. refl) (λ t. refl)

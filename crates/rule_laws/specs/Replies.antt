@@ -2,23 +2,26 @@
 use Prim.Native.Nat.{ℕ, _+_, _≤_, _<_}
 use native.Mathlib.Omega.{arith}
 use mathlib.Core.Path.{_≡_, refl}
-use mathlib.Core.List.{List, [], _∷_}
+use mathlib.Core.List.{List, [], _∷_, _++_}
 use mathlib.Core.Bool.{Bool, true, false, not, cond, _&&_}
 use lib.ListN.{length, getD}
 use lib.Dec.{eqb, leb, ltb}
-use borrow.Author.Tests.{leb-true, ltb-true}
-use Rattle.rules.specs.Limits.{flight, fence, rally, sizeOf, storeWords, maxJumps, maxRepeats, expiryMs, byteValues, clockValues, xLimit, yLimit, accepted, noSpace, invalid, invalidSequence, denied, cancelled, unsupported}
+use borrow.Author.Tests.{leb-true, ltb-true, not-false}
+use Rattle.rules.specs.Limits.{flight, fence, rally, sizeOf, halfShort, storeWords, maxJumps, maxRepeats, expiryMs, byteValues, clockValues, xLimit, yLimit, accepted, noSpace, invalid, invalidSequence, denied, cancelled, unsupported}
+use Rattle.rules.specs.Payload.{Bytes}
 use Rattle.rules.specs.Messages.{Station, station, sameStation, Item, current, count, ack, itemOf}
 use Rattle.rules.specs.Values.{signed, within, float, finite}
 use Rattle.rules.specs.Items.{Row, commands, paramOk, frameOk, isJump, placeFault, roomFault, faultIn, faultAmong, fault, jumpsAmong}
-use Rattle.rules.specs.Model.{Plan, Run, Upload, idle, running, Model, planOf, uploadOf, lengthOf, shownNumber, elapsed, expected, isLast, whole, wholeOk, isOthers, isOwn, put, choose, uploadInRange, inRange}
-use Rattle.rules.specs.Calls.{Call, message, timer, done, Request, chooses, asksList, announces, clears, acknowledges, asksItem, brings, Heard, refuses, request, expiry, commandDone, isKnown, heard}
-use Rattle.rules.specs.Step.{Stepped, onCount, onValidItem, onItem, onAck, onClear, anyOthers, covered, onList, onRequest, onSetCurrent, onKnown, kindOk, onMessage, onTimer, act, step}
+use Rattle.rules.specs.Fence.{fenceOk}
+use Rattle.rules.specs.Model.{Plan, Task, Run, Upload, idle, running, Model, planOf, uploadOf, lengthOf, shownNumber, elapsed, expected, isLast, verdictOn, whole, wholeFault, isOthers, isOwn, put, choose, uploadInRange, inRange}
+use Rattle.rules.specs.Calls.{Call, message, timer, done, Request, chooses, asksList, announces, changes, clears, acknowledges, asksItem, brings, Heard, refuses, request, expiry, commandDone, isKnown, heard}
+use Rattle.rules.specs.Step.{Stepped, onCount, partOk, onPartial, onValidItem, onItem, onAck, onClear, anyOthers, covered, onList, onRequest, onSetCurrent, onKnown, kindOk, onMessage, onTimer, act, step}
 use Rattle.rule_laws.specs.Tests.{both, either}
 use Rattle.rule_laws.specs.Kinds.{size-small, ranged-kind}
+use Rattle.rule_laws.specs.Tasks.{run-ranges, next-below}
 use Rattle.rule_laws.specs.Written.{ack-fits, request-fits, count-fits, current-fits, item-fits, text-fits}
 use Rattle.rule_laws.specs.Heard.{HeardFits, heard-fits}
-use Rattle.rule_laws.specs.Fitted.{item-bytes, whole-bytes, put-fits}
+use Rattle.rule_laws.specs.Fitted.{item-bytes, more-bytes, whole-bytes, put-fits}
 use Rattle.rule_laws.specs.Fitting.{Fits, StationFits, PlanFits, RunFits, UploadFits, ModelFits, CallFits, AnswerFits}
 
 -- ---- numbers that are written
@@ -63,20 +66,21 @@ fault-small : (kind n own jumps : ℕ) (item : Item) → Small (fault kind n own
 unfolding fault
 fault-small kind n own jumps item = among-small commands kind n own jumps item
 
+verdict-small : (kind : ℕ) (t : Task) (own : ℕ) (got : List Bytes) (item : Item) → Small (verdictOn kind t own got item)
+unfolding verdictOn
+verdict-small kind t own got item = fault-small kind (t .count) own (cond (t .partial) 0 (jumpsAmong got)) item
+
+whole-small : (kind : ℕ) (t : Task) (items : List Bytes) → Small (wholeFault kind t items)
+unfolding wholeFault
+whole-small kind t items =
+    either Small (t .partial && eqb kind flight && ltb maxJumps (jumpsAmong items)) (λ e. omega arith)
+    (λ e. either Small (eqb kind fence && not (fenceOk items)) (λ e. omega arith) (λ e. omega arith))
+
 -- ---- the handlers
 
 -- the expected number of an upload in its ranges
-next-small : (kind : ℕ) (r : Run) → uploadInRange kind (running r) ≡ true → expected r < sizeOf flight
-unfolding uploadInRange
-next-small kind r e =
-    let some = leb 1 (r .count) in
-    let most = leb (r .count) (sizeOf kind) in
-    let below = ltb (expected r) (r .count) in
-    let most-repeats = leb (r .repeats) maxRepeats in
-    let front = both (some && most && below) most-repeats e .0 in
-    let lt = ltb-true (expected r) (r .count) (both (some && most) below front .1) in
-    let le = leb-true (r .count) (sizeOf kind) (both some most (both (some && most) below front .0) .1) in
-    omega (arith, size-small kind)
+next-small : (kind len : ℕ) (r : Run) → uploadInRange kind len (running r) ≡ true → expected r < sizeOf flight
+next-small kind len r e = omega (arith, next-below kind len r (run-ranges kind len r e), size-small kind)
 
 abbrev Good : Stepped → Type 0
 Good s = AnswerFits (s .answer)
@@ -90,8 +94,7 @@ module _ (m : Model) (fits : ModelFits m) (ranged : inRange m ≡ true) (from : 
 
   length-fits : lengthOf (m .shown) kind ≤ sizeOf flight
   length-fits =
-      let parts = both (leb (lengthOf (m .shown) kind) (sizeOf kind)) (uploadInRange kind (uploadOf m kind)) (ranged-kind m ranged kind known) in
-      let le = leb-true (lengthOf (m .shown) kind) (sizeOf kind) (parts .0) in
+      let le = ranged-kind m ranged kind known .most in
       omega (arith, size-small kind)
 
   count-good : (now n : ℕ) → Good (onCount m from now kind n)
@@ -105,21 +108,38 @@ module _ (m : Model) (fits : ModelFits m) (ranged : inRange m ≡ true) (from : 
   unfolding onValidItem
   valid-good now r item fit h =
       let b = itemOf item in
-      let all = put-fits (m .shown) kind (whole r b) (whole-bytes r b fit (item-bytes item)) (fits .plans) in
+      let got = r .taken ++ (b ∷ []) in
+      let items = whole (r .task) (planOf (m .shown) kind .items) got in
+      let bytes = whole-bytes (r .task) (planOf (m .shown) kind .items) got (fits .plans kind .items) (more-bytes r b fit (item-bytes item)) in
+      let all = put-fits (m .shown) (r .task .partial) kind items bytes (fits .plans) in
+      let verdict = wholeFault kind (r .task) items in
       either Good (not (isLast r)) (λ e. request-fits from (expected r + 1) kind sender (omega arith) kind-small)
-      (λ e. either Good (wholeOk kind (whole r b))
-      (λ e. ack-fits from accepted kind (planOf (put kind (whole r b) (m .shown)) kind .number) sender (omega arith) kind-small (all kind .number))
-      (λ e. acks-fit invalid (omega arith)))
+      (λ e. either Good (eqb verdict accepted)
+      (λ e. ack-fits from accepted kind (planOf (put (r .task .partial) kind items (m .shown)) kind .number) sender (omega arith) kind-small (all kind .number))
+      (λ e. acks-fit verdict (whole-small kind (r .task) items)))
 
-  item-good : (u : Upload) → UploadFits u → uploadInRange kind u ≡ true → (now : ℕ) (item : Item) → Good (onItem u m from now kind item)
+  part-good : (now start end : ℕ) → Good (onPartial m from now kind start end)
+  unfolding onPartial partOk
+  part-good now start end =
+      let len = lengthOf (m .shown) kind in
+      let low = ltb start halfShort in
+      let high = ltb end halfShort in
+      let order = leb start end in
+      either Good (isOthers from (uploadOf m kind)) (λ e. acks-fit denied (omega arith))
+      (λ e. either Good (not (partOk len start end)) (λ e. acks-fit invalidSequence (omega arith))
+      (λ e. let front = both (low && high && order) (ltb end len) (not-false (partOk len start end) e) .0 in
+      let small = ltb-true start halfShort (both low high (both (low && high) order front .0) .0) in
+      request-fits from start kind sender (omega arith) kind-small))
+
+  item-good : (u : Upload) → UploadFits u → uploadInRange kind (lengthOf (m .shown) kind) u ≡ true → (now : ℕ) (item : Item) → Good (onItem u m from now kind item)
   unfolding onItem
   item-good idle fit e now item = acks-fit invalidSequence (omega arith)
   item-good (running r) fit e now item =
-      let next : expected r < sizeOf flight = next-small kind r e in
-      let verdict = fault kind (r .count) (expected r) (jumpsAmong (r .taken)) item in
+      let next : expected r < sizeOf flight = next-small kind (lengthOf (m .shown) kind) r e in
+      let verdict = verdictOn kind (r .task) (expected r) (r .taken) item in
       either Good (not (sameStation from (r .station))) (λ e. acks-fit denied (omega arith))
       (λ e. either Good (not (eqb (item .seq) (expected r))) (λ e. request-fits from (expected r) kind sender (omega arith) kind-small)
-      (λ e. either Good (not (eqb verdict accepted)) (λ e. acks-fit verdict (fault-small kind (r .count) (expected r) (jumpsAmong (r .taken)) item))
+      (λ e. either Good (not (eqb verdict accepted)) (λ e. acks-fit verdict (verdict-small kind (r .task) (expected r) (r .taken) item))
       (λ e. valid-good now r item fit next)))
 
   list-good : Good (onList m from kind)
@@ -148,8 +168,7 @@ acked-good m from kind result = either Good (isOwn from (uploadOf m kind) && not
 current-good : (m : Model) → ModelFits m → inRange m ≡ true → (seq : ℕ) → Good (onSetCurrent m seq)
 unfolding onSetCurrent choose
 current-good m fits ranged seq =
-    let parts = both (leb (lengthOf (m .shown) flight) (sizeOf flight)) (uploadInRange flight (uploadOf m flight)) (ranged-kind m ranged flight refl) in
-    let most : lengthOf (m .shown) flight ≤ sizeOf flight = leb-true (lengthOf (m .shown) flight) (sizeOf flight) (parts .0) in
+    let most : lengthOf (m .shown) flight ≤ sizeOf flight = ranged-kind m ranged flight refl .most in
     let number : (kind : ℕ) → shownNumber (lengthOf (m .shown) kind) (planOf (m .shown) kind .number) < clockValues = λ kind. shown-fits (planOf (m .shown) kind) (fits .plans kind) in
     either Good (ltb seq (lengthOf (m .shown) flight))
     (λ e. let below : seq < lengthOf (m .shown) flight = ltb-true seq (lengthOf (m .shown) flight) e in
@@ -165,18 +184,18 @@ message-good m from now kind r fits ranged sender small =
     known (chooses seq) k = current-good m fits ranged seq
     known asksList k = list-good m fits ranged from sender kind k
     known (announces n) k = count-good m fits ranged from sender kind k now n
+    known (changes start end) k = part-good m fits ranged from sender kind k now start end
     known clears k = clear-good m from kind sender small
     known (acknowledges result) k = acked-good m from kind result
     known (asksItem seq) k = request-good m fits ranged from sender kind k seq
     known (brings item) k =
-        item-good m fits ranged from sender kind k (uploadOf m kind) (fits .uploads kind)
-        (both (leb (lengthOf (m .shown) kind) (sizeOf kind)) (uploadInRange kind (uploadOf m kind)) (ranged-kind m ranged kind k) .1) now item
+        item-good m fits ranged from sender kind k (uploadOf m kind) (fits .uploads kind) (ranged-kind m ranged kind k .upload) now item
 
-timer-good : (m : Model) (u : Upload) (now kind : ℕ) → UploadFits u → uploadInRange kind u ≡ true → kind < byteValues → Good (onTimer u m now kind)
+timer-good : (m : Model) (u : Upload) (now kind len : ℕ) → UploadFits u → uploadInRange kind len u ≡ true → kind < byteValues → Good (onTimer u m now kind)
 unfolding onTimer
-timer-good m idle now kind fits e small = tt
-timer-good m (running r) now kind fits e small =
-    let next : expected r < sizeOf flight = next-small kind r e in
+timer-good m idle now kind len fits e small = tt
+timer-good m (running r) now kind len fits e small =
+    let next : expected r < sizeOf flight = next-small kind len r e in
     either Good (ltb (elapsed now (r .started)) expiryMs) (λ e. tt)
     (λ e. either Good (ltb (r .repeats) maxRepeats) (λ e. request-fits (r .station) (expected r) kind (fits .station) (omega arith) small)
     (λ e. ack-fits (r .station) cancelled kind 0 (fits .station) (omega arith) small (omega arith)))
@@ -188,9 +207,8 @@ unfolding act
 act-good m (refuses outcome) fits ranged h = tt
 act-good m (request from now kind r) fits ranged h = message-good m from now kind r fits ranged (h .0) (h .1)
 act-good m (expiry now kind) fits ranged h =
-    let parts = both (leb (lengthOf (m .shown) kind) (sizeOf kind)) (uploadInRange kind (uploadOf m kind)) (ranged-kind m ranged kind (h .0)) in
     let le : kind ≤ rally = leb-true kind rally (h .0) in
-    timer-good m (uploadOf m kind) now kind (fits .uploads kind) (parts .1) (omega arith)
+    timer-good m (uploadOf m kind) now kind (lengthOf (m .shown) kind) (fits .uploads kind) (ranged-kind m ranged kind (h .0) .upload) (omega arith)
 act-good m commandDone fits ranged h = tt
 
 -- with a number out of its range every call is refused
