@@ -32,10 +32,7 @@ fn task_ranged(run: Run, len: u16) -> bool
 fn run_ranged(run: Run, size: u16, len: u16) -> bool
     ensures { λ r. ⌜ r ≡ runRanged size len run ⌝ }
 {
-    (1 <= run.count)
-        & (run.count <= size)
-        & task_ranged(run, len)
-        & (run.repeats <= MAX_REPEATS)
+    (1 <= run.count) & (run.count <= size) & task_ranged(run, len) & (run.repeats <= MAX_REPEATS)
 }
 
 fn upload_ranged(upload: Upload, size: u16, len: u16) -> bool
