@@ -74,35 +74,36 @@ fn length_case(i: usize) -> Case {
     }
 }
 
-pub const COUNT: usize = 38;
+pub const COUNT: usize = 39;
 
 // Payloads of every length; from 16 on MAVLink's own test values: the messages that are read, with their bytes where they are also written, then those that
-// are only written; from 26 on whole numbers: 8388607 and 8388607.5; the last below 2 ^ 31, 2 ^ 31, -2 ^ 31, and the first below it; NaN, quiet and signalling,
+// are only written; from 27 on whole numbers: 8388607 and 8388607.5; the last below 2 ^ 31, 2 ^ 31, -2 ^ 31, and the first below it; NaN, quiet and signalling,
 // of either sign; the infinities.
 pub fn case_of(i: usize) -> Case {
     match i {
-        16 => message(wire::SET_CURRENT_ID, 300, 4, 0, 5),
-        17 => message(wire::REQUEST_LIST_ID, 304, 3, 0, 5),
-        18 => message(wire::CLEAR_ALL_ID, 304, 3, 0, 5),
-        19 => message(wire::COUNT_ID, 307, 9, 60, 7),
-        20 => message(wire::ACK_ID, 316, 8, 60, 7),
-        21 => message(wire::REQUEST_INT_ID, 324, 5, 60, 6),
-        22 => message(wire::ITEM_INT_ID, 329, 38, 60, 17),
-        23 => message(wire::ITEM_INT_ID, 367, 38, 60, 17),
-        24 => message(wire::CURRENT_ID, 0, 0, 60, 2),
-        25 => message(wire::STATUSTEXT_ID, 0, 0, 60, 2),
-        26 => whole(0x4aff_fffe, 8388607),
-        27 => whole(0x4aff_ffff, 8388607),
-        28 => whole(0x4eff_ffff, 2147483520),
-        29 => whole(0x4f00_0000, 2147483647),
-        30 => whole(0xcf00_0000, -2147483648),
-        31 => whole(0xcf00_0001, -2147483648),
-        32 => whole(0x7fc0_0000, 0),
-        33 => whole(0x7f80_0001, 0),
-        34 => whole(0xffc0_0000, 0),
-        35 => whole(0xff80_0001, 0),
-        36 => whole(0x7f80_0000, 0),
-        37 => whole(0xff80_0000, 0),
+        16 => message(wire::PARTIAL_LIST_ID, 300, 7, 0, 7),
+        17 => message(wire::SET_CURRENT_ID, 307, 4, 0, 5),
+        18 => message(wire::REQUEST_LIST_ID, 311, 3, 0, 5),
+        19 => message(wire::CLEAR_ALL_ID, 311, 3, 0, 5),
+        20 => message(wire::COUNT_ID, 314, 9, 60, 7),
+        21 => message(wire::ACK_ID, 323, 8, 60, 7),
+        22 => message(wire::REQUEST_INT_ID, 331, 5, 60, 6),
+        23 => message(wire::ITEM_INT_ID, 336, 38, 60, 17),
+        24 => message(wire::ITEM_INT_ID, 374, 38, 60, 17),
+        25 => message(wire::CURRENT_ID, 0, 0, 60, 2),
+        26 => message(wire::STATUSTEXT_ID, 0, 0, 60, 2),
+        27 => whole(0x4aff_fffe, 8388607),
+        28 => whole(0x4aff_ffff, 8388607),
+        29 => whole(0x4eff_ffff, 2147483520),
+        30 => whole(0x4f00_0000, 2147483647),
+        31 => whole(0xcf00_0000, -2147483648),
+        32 => whole(0xcf00_0001, -2147483648),
+        33 => whole(0x7fc0_0000, 0),
+        34 => whole(0x7f80_0001, 0),
+        35 => whole(0xffc0_0000, 0),
+        36 => whole(0xff80_0001, 0),
+        37 => whole(0x7f80_0000, 0),
+        38 => whole(0xff80_0000, 0),
         _ => length_case(i),
     }
 }

@@ -58,6 +58,18 @@ fn item_shown(own: &[u8; OWN_BYTES], n: u64) -> [u64; NUMBERS] {
 // A message that is only read.
 fn read_only(id: u32, own: &[u8; OWN_BYTES]) -> [u64; NUMBERS] {
     match id {
+        wire::PARTIAL_LIST_ID => {
+            let m = wire::read_partial_list(own);
+            few(
+                id,
+                0,
+                m.start as u64,
+                m.end as u64,
+                m.system as u64,
+                m.component as u64,
+                m.kind as u64,
+            )
+        }
         wire::SET_CURRENT_ID => {
             let m = wire::read_set_current(own);
             few(

@@ -1,13 +1,14 @@
 // The payloads: 300 bytes, none of them zero, and behind them MAVLink's own test values.
 pub const LONGEST: usize = 300;
 
-const TESTS: usize = 105;
+const TESTS: usize = 112;
 
-pub const ALL: usize = 405;
+pub const ALL: usize = 412;
 
-// SET_CURRENT, REQUEST_LIST and CLEAR_ALL, COUNT, ACK, REQUEST_INT, and ITEM_INT twice; the last one has quiet, signalling, negative and full NaN patterns,
-// and minus zero.
-const TEST_VALUES: [u8; TESTS] = *b"\x53\x43\x8b\xce\
+// MISSION_WRITE_PARTIAL_LIST, SET_CURRENT, REQUEST_LIST and CLEAR_ALL, COUNT, ACK, REQUEST_INT, and ITEM_INT twice; the last one has quiet, signalling, negative
+// and full NaN patterns, and minus zero.
+const TEST_VALUES: [u8; TESTS] = *b"\x53\x43\xbb\x43\x11\x54\x97\
+    \x53\x43\x8b\xce\
     \x05\x48\x8b\
     \x53\x43\x8b\xce\x11\xfc\xce\x6d\x39\
     \x05\x48\x8b\xce\xc8\xce\x6d\x39\

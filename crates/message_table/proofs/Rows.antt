@@ -1,4 +1,4 @@
--- What holds of every id, shown row by row: each law of the table is computed at the nine ids and holds of all others.
+-- What holds of every id, shown row by row: each law of the table is computed at the ten ids and holds of all others.
 use Prim.Native.Nat.{ℕ, zero, suc, _+_, _-_, _≤_, _<_}
 use mathlib.Core.Path.{_≡_, refl, ap, sym, subst, _∙_}
 use mathlib.Core.List.{List, [], _∷_}
@@ -44,9 +44,10 @@ record NoRow (id : ℕ) : Type 0 where
   pub fields : layoutOf id .fields ≡ []
   pub message : (p : Bytes) → decode id p ≡ unknown
 
-outside : (id : ℕ) → (id ≡ 41 → ⊥) → (id ≡ 42 → ⊥) → (id ≡ 43 → ⊥) → (id ≡ 44 → ⊥) → (id ≡ 45 → ⊥) → (id ≡ 47 → ⊥) → (id ≡ 51 → ⊥) → (id ≡ 73 → ⊥) → (id ≡ 253 → ⊥) → NoRow id
+outside : (id : ℕ) → (id ≡ 38 → ⊥) → (id ≡ 41 → ⊥) → (id ≡ 42 → ⊥) → (id ≡ 43 → ⊥) → (id ≡ 44 → ⊥) → (id ≡ 45 → ⊥) → (id ≡ 47 → ⊥) → (id ≡ 51 → ⊥) → (id ≡ 73 → ⊥) → (id ≡ 253 → ⊥) → NoRow id
 unfolding rowOf layoutOf decode messageOf
-outside id n41 n42 n43 n44 n45 n47 n51 n73 n253 =
+outside id n38 n41 n42 n43 n44 n45 n47 n51 n73 n253 =
+    let a38 = other 38 id n38 in
     let a41 = other 41 id n41 in
     let a42 = other 42 id n42 in
     let a43 = other 43 id n43 in
@@ -57,34 +58,34 @@ outside id n41 n42 n43 n44 n45 n47 n51 n73 n253 =
     let a73 = other 73 id n73 in
     let a253 = other 253 id n253 in
     record {
-      row = rw (a41, a42, a43, a44, a45, a47, a51, a73, a253);
-      full = rw (a41, a42, a43, a44, a45, a47, a51, a73, a253);
-      fields = rw (a41, a42, a43, a44, a45, a47, a51, a73, a253);
+      row = rw (a38, a41, a42, a43, a44, a45, a47, a51, a73, a253);
+      full = rw (a38, a41, a42, a43, a44, a45, a47, a51, a73, a253);
+      fields = rw (a38, a41, a42, a43, a44, a45, a47, a51, a73, a253);
       message =
           λ p.
-          rw (ne-eqb id 41 n41, ne-eqb id 42 n42, ne-eqb id 43 n43, ne-eqb id 44 n44, ne-eqb id 45 n45, ne-eqb id 47 n47, ne-eqb id 51 n51, ne-eqb id 73 n73, ne-eqb id 253 n253);
+          rw (ne-eqb id 38 n38, ne-eqb id 41 n41, ne-eqb id 42 n42, ne-eqb id 43 n43, ne-eqb id 44 n44, ne-eqb id 45 n45, ne-eqb id 47 n47, ne-eqb id 51 n51, ne-eqb id 73 n73, ne-eqb id 253 n253);
     }
 
--- what holds at the nine ids of the table and at every id that has no row holds at every id
-by-row : (P : ℕ → Type 0) → P 41 → P 42 → P 43 → P 44 → P 45 → P 47 → P 51 → P 73 → P 253 → ((id : ℕ) → NoRow id → P id) → (id : ℕ) → P id
-by-row P p41 p42 p43 p44 p45 p47 p51 p73 p253 none id =
-    split P 41 id p41 (λ n41. split P 42 id p42 (λ n42. split P 43 id p43 (λ n43. split P 44 id p44 (λ n44. split P 45 id p45 (λ n45.
+-- what holds at the ten ids of the table and at every id that has no row holds at every id
+by-row : (P : ℕ → Type 0) → P 38 → P 41 → P 42 → P 43 → P 44 → P 45 → P 47 → P 51 → P 73 → P 253 → ((id : ℕ) → NoRow id → P id) → (id : ℕ) → P id
+by-row P p38 p41 p42 p43 p44 p45 p47 p51 p73 p253 none id =
+    split P 38 id p38 (λ n38. split P 41 id p41 (λ n41. split P 42 id p42 (λ n42. split P 43 id p43 (λ n43. split P 44 id p44 (λ n44. split P 45 id p45 (λ n45.
     split P 47 id p47 (λ n47. split P 51 id p51 (λ n51. split P 73 id p73 (λ n73. split P 253 id p253 (λ n253.
-    none id (outside id n41 n42 n43 n44 n45 n47 n51 n73 n253))))))))))
+    none id (outside id n38 n41 n42 n43 n44 n45 n47 n51 n73 n253)))))))))))
 
 -- ---- the row of an id
 
 pub found : (id n : ℕ) (row : Row) → id ≡ n → row ≡ rowAt (rowOf n) → row ≡ rowAt (rowOf id)
 found id n row e is = is ∙ ap (λ (k : ℕ). rowAt (rowOf k)) (sym e)
 
-pub missed : (id : ℕ) (row : Row) → (id ≡ 41 → ⊥) → (id ≡ 42 → ⊥) → (id ≡ 43 → ⊥) → (id ≡ 44 → ⊥) → (id ≡ 45 → ⊥) → (id ≡ 47 → ⊥) → (id ≡ 51 → ⊥) → (id ≡ 73 → ⊥) → (id ≡ 253 → ⊥) → row ≡ rowAt (length ids) → row ≡ rowAt (rowOf id)
-missed id row n41 n42 n43 n44 n45 n47 n51 n73 n253 is = is ∙ ap rowAt (sym (outside id n41 n42 n43 n44 n45 n47 n51 n73 n253 .row))
+pub missed : (id : ℕ) (row : Row) → (id ≡ 38 → ⊥) → (id ≡ 41 → ⊥) → (id ≡ 42 → ⊥) → (id ≡ 43 → ⊥) → (id ≡ 44 → ⊥) → (id ≡ 45 → ⊥) → (id ≡ 47 → ⊥) → (id ≡ 51 → ⊥) → (id ≡ 73 → ⊥) → (id ≡ 253 → ⊥) → row ≡ rowAt (length ids) → row ≡ rowAt (rowOf id)
+missed id row n38 n41 n42 n43 n44 n45 n47 n51 n73 n253 is = is ∙ ap rowAt (sym (outside id n38 n41 n42 n43 n44 n45 n47 n51 n73 n253 .row))
 
 -- ---- the columns of the table
 
 full-row : (id : ℕ) → getD fulls (rowOf id) 0 ≡ layoutOf id .full
 unfolding rowOf layoutOf
-full-row = by-row (λ id. getD fulls (rowOf id) 0 ≡ layoutOf id .full) refl refl refl refl refl refl refl refl refl (λ id no. rw (no .row, no .full))
+full-row = by-row (λ id. getD fulls (rowOf id) 0 ≡ layoutOf id .full) refl refl refl refl refl refl refl refl refl refl (λ id no. rw (no .row, no .full))
 
 pub full-at : (id : ℕ) (row : Row) → row ≡ rowAt (rowOf id) → row .full ≡ layoutOf id .full
 full-at id row e = ap (λ (r : Row). r .full) e ∙ full-row id
@@ -95,7 +96,7 @@ readBy id row = row .listed && not (eqb id currentId) && not (eqb id statustextI
 
 read-row : (id : ℕ) (p : Bytes) → readBy id (rowAt (rowOf id)) ≡ isRead (decode id p)
 unfolding rowOf decode messageOf
-read-row id p = by-row (λ id. readBy id (rowAt (rowOf id)) ≡ isRead (decode id p)) refl refl refl refl refl refl refl refl refl (λ id no. rw (no .row, no .message p)) id
+read-row id p = by-row (λ id. readBy id (rowAt (rowOf id)) ≡ isRead (decode id p)) refl refl refl refl refl refl refl refl refl refl (λ id no. rw (no .row, no .message p)) id
 
 not-read : {A : Type 0} → false ≡ true → A
 not-read e = absurd (subst T (sym e) tt)
@@ -106,6 +107,7 @@ target-row : (id : ℕ) (b : Bytes) → isRead (decode id b) ≡ true → statio
 unfolding rowOf layoutOf decode messageOf values
 target-row id b =
     by-row (λ id. isRead (decode id b) ≡ true → station (getD b (getD targets (rowOf id) 0) 0) (getD b (getD targets (rowOf id) 0 + 1) 0) ≡ targetOf (decode id b))
+    (λ e. pair 4)
     (λ e. pair 2)
     not-read
     (λ e. pair 0)
@@ -126,6 +128,7 @@ kind-row : (id : ℕ) (p b : Bytes) → Owned (layoutOf id .full) p b → isRead
 unfolding rowOf layoutOf decode messageOf values
 kind-row id p b =
     by-row (λ id. Owned (layoutOf id .full) p b → isRead (decode id b) ≡ true → getD b (getD kinds (rowOf id) 0) 0 ≡ kindOf (decode id b))
+    (λ own e. sym (number-one 6 b))
     (λ own e. own .byte none (lit< tt) ∙ List·getD-eq-default (take 4 p) 0 (omega (arith, length-take 4 p)))
     (λ own e. not-read e)
     (λ own e. sym (number-one 2 b))
@@ -173,13 +176,14 @@ values-same full (f ∷ fs) p q same t =
 
 all-within : (id : ℕ) → T (within (layoutOf id .full) (layoutOf id .fields))
 unfolding layoutOf
-all-within = by-row (λ id. T (within (layoutOf id .full) (layoutOf id .fields))) tt tt tt tt tt tt tt tt tt (λ id no. subst (λ fs. T (within (layoutOf id .full) fs)) (sym (no .fields)) tt)
+all-within = by-row (λ id. T (within (layoutOf id .full) (layoutOf id .fields))) tt tt tt tt tt tt tt tt tt tt (λ id no. subst (λ fs. T (within (layoutOf id .full) fs)) (sym (no .fields)) tt)
 
 -- the longest message that is read is ITEM_INT
 full-read : (id : ℕ) (p : Bytes) → isRead (decode id p) ≡ true → layoutOf id .full ≤ itemBytes
 unfolding layoutOf decode messageOf
 full-read id p =
     by-row (λ id. isRead (decode id p) ≡ true → layoutOf id .full ≤ itemBytes)
+    (λ e. lit≤ tt)
     (λ e. lit≤ tt)
     not-read
     (λ e. lit≤ tt)

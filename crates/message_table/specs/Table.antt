@@ -11,7 +11,7 @@ use Rattle.rules.specs.Layouts.{Layout, layouts}
 use Rattle.message_table.specs.declared.Row.{Row}
 use Rattle.message_table.specs.declared.Head.{Head}
 use Rattle.message_table.specs.declared.Received.{Received}
-use Rattle.rules.specs.Messages.{decode, Station, station, Message, setCurrent, current, requestList, count, clearAll, ack, requestInt, itemInt, statustext, unknown}
+use Rattle.rules.specs.Messages.{decode, Station, station, Message, partialList, setCurrent, current, requestList, count, clearAll, ack, requestInt, itemInt, statustext, unknown}
 
 abbrev pub ids : List ℕ
 ids = map (λ (l : Layout). l .id) layouts
@@ -34,16 +34,17 @@ none = 36
 
 -- where the target's system stands, and the kind
 abbrev pub targets : List ℕ
-targets = 2 ∷ none ∷ 0 ∷ 2 ∷ 0 ∷ 0 ∷ 2 ∷ 32 ∷ none ∷ none ∷ []
+targets = 4 ∷ 2 ∷ none ∷ 0 ∷ 2 ∷ 0 ∷ 0 ∷ 2 ∷ 32 ∷ none ∷ none ∷ []
 
 abbrev pub kinds : List ℕ
-kinds = none ∷ none ∷ 2 ∷ 4 ∷ 2 ∷ 3 ∷ 4 ∷ 37 ∷ none ∷ none ∷ []
+kinds = 6 ∷ none ∷ none ∷ 2 ∷ 4 ∷ 2 ∷ 3 ∷ 4 ∷ 37 ∷ none ∷ none ∷ []
 
 abbrev pub rowAt : ℕ → Row
 rowAt k = record { full = getD fulls k 0; target = getD targets k 0; kind = getD kinds k 0; listed = ltb k (length ids) }
 
 -- "Ids 42 and 253 are only written."
 abbrev pub isRead : Message → Bool
+isRead (partialList to start end kind) = true
 isRead (setCurrent to seq) = true
 isRead (current seq total state mode mission fence rally) = false
 isRead (requestList to kind) = true
@@ -57,6 +58,7 @@ isRead unknown = false
 
 -- the target of a message; one without a target is for all
 abbrev pub targetOf : Message → Station
+targetOf (partialList to start end kind) = to
 targetOf (setCurrent to seq) = to
 targetOf (current seq total state mode mission fence rally) = station 0 0
 targetOf (requestList to kind) = to
@@ -70,6 +72,7 @@ targetOf unknown = station 0 0
 
 -- the kind of plan that a message speaks of: flight where it has no such field
 abbrev pub kindOf : Message → ℕ
+kindOf (partialList to start end kind) = kind
 kindOf (setCurrent to seq) = flight
 kindOf (current seq total state mode mission fence rally) = flight
 kindOf (requestList to kind) = kind

@@ -6,6 +6,8 @@ ghost use Rattle.rules.specs.Layouts.{layoutOf};
 ghost use Rattle.message_table.specs.Table.{rowOf, fulls, rowAt, Owned, ReadAs};
 use limits::ITEM_BYTES;
 
+pub const PARTIAL_LIST_ID: u32 = 38;
+
 pub const SET_CURRENT_ID: u32 = 41;
 
 pub const CURRENT_ID: u32 = 42;
@@ -25,11 +27,12 @@ pub const ITEM_INT_ID: u32 = 73;
 pub const STATUSTEXT_ID: u32 = 253;
 
 // The table has a row for each message, and one more for every id that is not in it.
-const MESSAGES: usize = 9;
+const MESSAGES: usize = 10;
 
 const ROWS: usize = MESSAGES + 1;
 
 const IDS: [u8; MESSAGES] = [
+    PARTIAL_LIST_ID as u8,
     SET_CURRENT_ID as u8,
     CURRENT_ID as u8,
     REQUEST_LIST_ID as u8,
@@ -41,15 +44,15 @@ const IDS: [u8; MESSAGES] = [
     STATUSTEXT_ID as u8,
 ];
 
-const FULLS: [u8; ROWS] = [4, 18, 3, 9, 3, 8, 5, 38, 54, 0];
+const FULLS: [u8; ROWS] = [7, 4, 18, 3, 9, 3, 8, 5, 38, 54, 0];
 
 // A message without the field has NONE: of those that are read only SET_CURRENT, which has no kind, and whose bytes end before it.
 const NONE: u8 = 36;
 
 // Where the target's system stands, its component behind it, and the kind.
-const TARGETS: [u8; ROWS] = [2, NONE, 0, 2, 0, 0, 2, 32, NONE, NONE];
+const TARGETS: [u8; ROWS] = [4, 2, NONE, 0, 2, 0, 0, 2, 32, NONE, NONE];
 
-const KINDS: [u8; ROWS] = [NONE, NONE, 2, 4, 2, 3, 4, 37, NONE, NONE];
+const KINDS: [u8; ROWS] = [6, NONE, NONE, 2, 4, 2, 3, 4, 37, NONE, NONE];
 
 // What the columns hold at a row, and whether it is that of an id in the table.
 struct Row {
@@ -101,6 +104,9 @@ fn row_of(id: u32) -> Row
     }
     if id == IDS[8] as u32 {
         return row_at(8);
+    }
+    if id == IDS[9] as u32 {
+        return row_at(9);
     }
     row_at(MESSAGES)
 }

@@ -8,8 +8,8 @@ use lib.Dec.{eqb, ltb}
 use borrow.Author.Tests.{ltb-false, leb-true, eqb-true, eqb-false, not-false, le-ltb, le-leb}
 use Rattle.rules.specs.Limits.{rally, storeWords, replyBytesMin, shortStore, outOfRange, shortReply, emptyPayload, notRead, notForUs}
 use Rattle.rules.specs.Payload.{Bytes}
-use Rattle.rules.specs.Messages.{Station, Message, setCurrent, current, requestList, count, clearAll, ack, requestInt, itemInt, statustext, unknown, decode}
-use Rattle.rules.specs.Calls.{message, timer, done, Request, chooses, asksList, announces, clears, acknowledges, asksItem, brings, Heard, refuses, request, expiry, commandDone, oursOrAll, forUs, heardMessage, heard, isKnown}
+use Rattle.rules.specs.Messages.{Station, Message, partialList, setCurrent, current, requestList, count, clearAll, ack, requestInt, itemInt, statustext, unknown, decode}
+use Rattle.rules.specs.Calls.{message, timer, done, Request, chooses, asksList, announces, changes, clears, acknowledges, asksItem, brings, Heard, refuses, request, expiry, commandDone, oursOrAll, forUs, heardMessage, heard, isKnown}
 use Rattle.message_table.specs.declared.Head.{Head}
 use Rattle.message_table.specs.Table.{isRead, targetOf, kindOf, headOf}
 
@@ -29,6 +29,7 @@ refused-with commandDone outcome e some = absurd (some (sym e))
 
 -- what a message says beside its target and its kind; one that is not read here says nothing
 abbrev pub requestOf : Message → Request
+requestOf (partialList to start end kind) = changes start end
 requestOf (setCurrent to seq) = chooses seq
 requestOf (current seq total state mode mission fence rally) = asksList
 requestOf (requestList to kind) = asksList
@@ -76,6 +77,7 @@ by-tests : (own from : Station) (now : ℕ) (m : Message)
     → heardMessage own from now m
     ≡ cond (not (isRead m)) (refuses notRead) (cond (not (isForUs own (targetOf m))) (refuses notForUs) (request from now (kindOf m) (requestOf m)))
 unfolding heardMessage forUs
+by-tests own from now (partialList to start end kind) = turn (isForUs own to) _ _
 by-tests own from now (setCurrent to seq) = turn (isForUs own to) _ _
 by-tests own from now (current seq total state mode mission fence rally) = refl
 by-tests own from now (requestList to kind) = turn (isForUs own to) _ _

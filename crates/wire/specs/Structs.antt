@@ -2,6 +2,7 @@
 use Rattle.rules.specs.Messages as rules
 use Rattle.rules.specs.Messages.{Message, station}
 use Rattle.item.specs.Patterns.{patterns}
+use Rattle.wire.specs.declared.structs.PartialList.{PartialList}
 use Rattle.wire.specs.declared.structs.SetCurrent.{SetCurrent}
 use Rattle.wire.specs.declared.structs.Current.{Current}
 use Rattle.wire.specs.declared.structs.RequestList.{RequestList}
@@ -11,6 +12,9 @@ use Rattle.wire.specs.declared.structs.Ack.{Ack}
 use Rattle.wire.specs.declared.structs.RequestInt.{RequestInt}
 use Rattle.wire.specs.declared.structs.ItemInt.{ItemInt}
 use Rattle.wire.specs.declared.structs.Statustext.{Statustext}
+
+abbrev pub partialListMessage : PartialList → Message
+partialListMessage m = rules.partialList (station (m .system) (m .component)) (m .start) (m .end) (m .kind)
 
 abbrev pub setCurrentMessage : SetCurrent → Message
 setCurrentMessage m = rules.setCurrent (station (m .system) (m .component)) (m .seq)

@@ -1,13 +1,14 @@
 // Reading: each message from its own bytes, by the fields' offsets.
 ghost use mathlib.Core.Path.{_≡_};
-ghost use Rattle.rules.specs.Layouts.{setCurrentId, requestListId, countId, clearAllId, ackId, requestIntId, itemIntId};
+ghost use Rattle.rules.specs.Layouts.{partialListId, setCurrentId, requestListId, countId, clearAllId, ackId, requestIntId, itemIntId};
 ghost use Rattle.rules.specs.Messages.{decode};
-ghost use Rattle.wire.specs.Structs.{setCurrentMessage, requestListMessage, countMessage, clearAllMessage, ackMessage, requestIntMessage, itemIntMessage};
+ghost use Rattle.wire.specs.Structs.{partialListMessage, setCurrentMessage, requestListMessage, countMessage, clearAllMessage, ackMessage, requestIntMessage, itemIntMessage};
 ghost use Rattle.item.specs.Patterns.{itemFor, patterns};
 use crate::structs::Ack;
 use crate::structs::ClearAll;
 use crate::structs::Count;
 use crate::structs::ItemInt;
+use crate::structs::PartialList;
 use crate::structs::RequestInt;
 use crate::structs::RequestList;
 use crate::structs::SetCurrent;
@@ -15,6 +16,18 @@ use fields::u16_at;
 use fields::u32_at;
 use item::item_at;
 use message_table::OWN_BYTES;
+
+pub fn read_partial_list(own: &[u8; OWN_BYTES]) -> PartialList
+    ensures { λ r. ⌜ partialListMessage r ≡ decode partialListId (now (own .entry)) ⌝ }
+{
+    PartialList {
+        start: u16_at(own, 0),
+        end: u16_at(own, 2),
+        system: own[4],
+        component: own[5],
+        kind: own[6],
+    }
+}
 
 pub fn read_set_current(own: &[u8; OWN_BYTES]) -> SetCurrent
     ensures { λ r. ⌜ setCurrentMessage r ≡ decode setCurrentId (now (own .entry)) ⌝ }

@@ -1,6 +1,15 @@
 // A struct for each message that is read or written here. Fields as MAVLink has them; `number` is the plan number.
 use item::Item;
 
+// MISSION_WRITE_PARTIAL_LIST; start and end as the patterns of signed numbers.
+pub struct PartialList {
+    pub start: u16,
+    pub end: u16,
+    pub system: u8,
+    pub component: u8,
+    pub kind: u8,
+}
+
 pub struct SetCurrent {
     pub seq: u16,
     pub system: u8,

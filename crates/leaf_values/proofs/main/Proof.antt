@@ -7,10 +7,10 @@ use Rattle.leaf_values.proofs.main.Statement.{statement}
 use Rattle.leaf_values.proofs.main.Tie as tie
 
 abbrev Inv-loop : tie.InvT-loop
-Inv-loop out₀ at₀ i₀ out at i = (i ≤ 38) × (length out ≡ 8192)
+Inv-loop out₀ at₀ i₀ out at i = (i ≤ 39) × (length out ≡ 8192)
 
 abbrev μ-loop : tie.MeasureT-loop
-μ-loop out₀ at₀ i₀ out at i = 38 - i
+μ-loop out₀ at₀ i₀ out at i = 39 - i
 
 loop-holds : tie.Need-loop-holds Inv-loop μ-loop
 loop-holds c = search needs

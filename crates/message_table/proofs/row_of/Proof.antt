@@ -122,11 +122,24 @@ returns-9 : tie.Need-returns-9
 unfolding rowOf
 returns-9 c = found _ _ _ (c .before .if9 .taken) (c .row-at9 .ensures)
 
+array-read-if10 : tie.Need-array-read-if10
+array-read-if10 c = search needs
+
+cast-if10 : tie.Need-cast-if10
+cast-if10 c = search needs
+
 row-at-requires-10 : tie.Need-row-at-requires-10
 row-at-requires-10 c κs = search needs
 
 returns-10 : tie.Need-returns-10
-returns-10 c = search (missed, needs)
+unfolding rowOf
+returns-10 c = found _ _ _ (c .before .if10 .taken) (c .row-at10 .ensures)
+
+row-at-requires-11 : tie.Need-row-at-requires-11
+row-at-requires-11 c κs = search needs
+
+returns-11 : tie.Need-returns-11
+returns-11 c = search (missed, needs)
 
 pub row-of-spec : {M : Type 1} → statement M
 row-of-spec =
@@ -168,5 +181,9 @@ row-of-spec =
     cast-if9
     row-at-requires-9
     returns-9
+    array-read-if10
+    cast-if10
     row-at-requires-10
-    returns-10)
+    returns-10
+    row-at-requires-11
+    returns-11)

@@ -7,7 +7,7 @@ use Rattle.leaf_values.proofs.test_payloads.payloads.Statement.{stateme
 use Rattle.leaf_values.proofs.test_payloads.payloads.Tie as tie
 
 abbrev Inv-loop : tie.InvT-loop
-Inv-loop p₀ i₀ p i = (i ≤ 300) × (length p ≡ 405)
+Inv-loop p₀ i₀ p i = (i ≤ 300) × (length p ≡ 412)
 
 abbrev μ-loop : tie.MeasureT-loop
 μ-loop p₀ i₀ p i = 300 - i
