@@ -15,7 +15,7 @@ use Rattle.rules.specs.Calls.{Call, message, timer, done, oursOrAll, forUs, hea
 use Rattle.rules.specs.Step.{Answer, refused, silent, says, orders, isRefused, Stepped, onCount, partOk, onPartial, onValidItem, onItem, onAck, onClear, anyOthers, covered, onList, onRequest, onSetCurrent, onKnown, kindOk, onMessage, onTimer, act, run}
 use Rattle.rule_laws.specs.Tests.{either}
 use Rattle.rule_laws.specs.Refused.{message-answered, timer-answered}
-use Rattle.call_lists.specs.Uploads.{shownBy, answerTo, hears, letIn, Starts, Open, Completes, Empties, byCount, byClear, byClearAll, Stroke, uploaded, emptied, chosen, movedOn, nothing}
+use Rattle.call_lists.specs.Uploads.{shownBy, answerTo, hears, letIn, Starts, Open, Alone, Completes, Empties, byCount, byClear, byClearAll, Stroke, uploaded, emptied, chosen, movedOn, nothing}
 use Rattle.call_lists.specs.Laws.Lists.{run-snoc, same-self, same-station}
 use Rattle.call_lists.specs.Laws.Turns.{no, or-left, start-denied}
 use Rattle.rule_laws.specs.Kinds.{size-small}
@@ -25,6 +25,10 @@ use Rattle.call_lists.specs.Tracks.{one-more, toldRun, in-turn, open-run
 -- what is shown after one more call
 shown-after : (pre : List Call) (c : Call) → shownBy (pre ++ (c ∷ [])) ≡ act (run fresh pre) (hears c) .model .shown
 shown-after pre c = ap (λ (m : Model). m .shown) (run-snoc fresh pre c) ∙ ap (λ (s : Stepped). s .model .shown) (one-more pre c)
+
+-- the answer to one more call
+pub answer-heard : (pre : List Call) (c : Call) (h : Heard) → hears c ≡ h → answerTo pre c ≡ act (run fresh pre) h .answer
+answer-heard pre c h e = ap (λ (s : Stepped). s .answer) (one-more pre c) ∙ ap (λ (g : Heard). act (run fresh pre) g .answer) e
 
 -- ---- a completed upload takes effect
 
@@ -264,7 +268,7 @@ never-out-of-range pre c e =
     true≢false
     (subst AnswerWithin (sym (ap (λ (s : Stepped). s .answer) (one-more pre c)) ∙ e) (act-within (run fresh pre) (hears c) (hears-within c)))
 
--- ---- a fitting COUNT is let in unless another station's upload of the kind is open, and is denied then
+-- ---- a fitting COUNT or 38 is let in unless another station's upload of the kind is open, and is denied then
 
 count-let-in :
     (m : Model) (o : Station) (now k n : ℕ) → isKnown k ≡ true → n ≤ sizeOf k → isOthers o (uploadOf m k) ≡ false
@@ -272,10 +276,6 @@ count-let-in :
 unfolding act onMessage onKnown kindOk onCount
 count-let-in m o now k n known fits mine =
     rw (known, mine, le-ltb (sizeOf k) n fits) (either (λ (s : Stepped). letIn (s .answer) ≡ true) (eqb n 0) (λ t. refl) (λ t. refl))
-
--- no other station's upload of the kind is open
-abbrev pub Alone : (k : ℕ) (o : Station) → List Call → Type 0
-Alone k o pre = (o′ : Station) (t : Task) (got : List Bytes) (started repeats : ℕ) → Open k o′ t pre got started repeats → o′ ≡ o
 
 alone-mine : (k : ℕ) (o : Station) (pre : List Call) → isKnown k ≡ true → Alone k o pre → isOthers o (uploadOf (run fresh pre) k) ≡ false
 unfolding isOthers
@@ -291,26 +291,24 @@ pub lets-in :
     (pre : List Call) (c : Call) (k : ℕ) (o : Station) (now n : ℕ) → hears c ≡ request o now k (announces n) → k ≤ rally → n ≤ sizeOf k → Alone k o pre
     → letIn (answerTo pre c) ≡ true
 lets-in pre c k o now n sent small fits alone =
-    ap (λ (s : Stepped). letIn (s .answer)) (one-more pre c)
-    ∙ ap (λ (h : Heard). letIn (act (run fresh pre) h .answer)) sent
+    ap letIn (answer-heard pre c (request o now k (announces n)) sent)
     ∙ count-let-in (run fresh pre) o now k n (le-leb k rally small) fits (alone-mine k o pre (le-leb k rally small) alone)
 
--- a 38 within the plan is let in too
+-- (M-108) "After COUNT's rule on running uploads, needs 0 <= start <= end < length"
 part-let-in :
-    (m : Model) (o : Station) (now k start end : ℕ) → isKnown k ≡ true → lengthOf (m .shown) k ≤ sizeOf k → start ≤ end → end < lengthOf (m .shown) k → isOthers o (uploadOf m k) ≡ false
-    → letIn (act m (request o now k (changes start end)) .answer) ≡ true
+    (m : Model) (o : Station) (now k start end : ℕ) → isKnown k ≡ true → lengthOf (m .shown) k ≤ sizeOf k → start ≤ end → end < lengthOf (m .shown) k
+    → isOthers o (uploadOf m k) ≡ false → letIn (act m (request o now k (changes start end)) .answer) ≡ true
 unfolding act onMessage onKnown kindOk onPartial partOk
 part-let-in m o now k start end known most order below mine =
     let small = size-small k in
     rw (known, mine, lt-ltb start halfShort (omega arith), lt-ltb end halfShort (omega arith), le-leb start end order, lt-ltb end (lengthOf (m .shown) k) below)
 
 pub lets-part-in :
-    (pre : List Call) (c : Call) (k : ℕ) (o : Station) (now start end : ℕ) → hears c ≡ request o now k (changes start end) → k ≤ rally → start ≤ end → end < lengthOf (shownBy pre) k → Alone k o pre
-    → letIn (answerTo pre c) ≡ true
+    (pre : List Call) (c : Call) (k : ℕ) (o : Station) (now start end : ℕ) → hears c ≡ request o now k (changes start end) → k ≤ rally → start ≤ end
+    → end < lengthOf (shownBy pre) k → Alone k o pre → letIn (answerTo pre c) ≡ true
 lets-part-in pre c k o now start end sent small order below alone =
     let known = le-leb k rally small in
-    ap (λ (s : Stepped). letIn (s .answer)) (one-more pre c)
-    ∙ ap (λ (h : Heard). letIn (act (run fresh pre) h .answer)) sent
+    ap letIn (answer-heard pre c (request o now k (changes start end)) sent)
     ∙ part-let-in (run fresh pre) o now k start end known (formed pre .plan k known) order below (alone-mine k o pre known alone)
 
 -- another station than the one whose upload is open
@@ -329,6 +327,5 @@ pub denies :
     (pre : List Call) (c : Call) (k : ℕ) (o o′ : Station) (t : Task) (q : Request) (got : List Bytes) (started repeats now : ℕ) → Open k o t pre got started repeats
     → (o′ ≡ o → ⊥) → Starts q → hears c ≡ request o′ now k q → answerTo pre c ≡ says (ack o′ denied k 0)
 denies pre c k o o′ t q got started repeats now up other starts sent =
-    ap (λ (s : Stepped). s .answer) (one-more pre c)
-    ∙ ap (λ (h : Heard). act (run fresh pre) h .answer) sent
+    answer-heard pre c (request o′ now k q) sent
     ∙ ap (λ (s : Stepped). s .answer) (start-denied (run fresh pre) o′ now k q starts (open-runs up .known) (others-open o′ up other))
