@@ -17,7 +17,7 @@ use Rattle.plan.specs.declared.Upload.the-variants.{Idle, Running}
 use Rattle.places.specs.Part.{part}
 use Rattle.places.specs.Forms.{Store, Form, least, offsetOf, itemAt, itemsIn}
 use Rattle.places.specs.Places.{Lawful, offset-within}
-use Rattle.plan.specs.View.{planOf, uploadIn, viewIn}
+use Rattle.plan.specs.View.{planOf, stationIn, taskIn, uploadIn, viewIn}
 use Rattle.refine.specs.Items.{len-ranged, next-below}
 
 module _ (F : Form) (lawful : Lawful F) where
@@ -41,7 +41,7 @@ module _ (F : Form) (lawful : Lawful F) where
     unfolding uploadIn
     upload-front k known Idle e = refl
     upload-front k known (Running r) e =
-        ap (λ (l : List Bytes). running (record { station = record { system = r .system; component = r .component }; count = r .count; taken = l; started = r .started; repeats = r .repeats }))
+        ap (λ (l : List Bytes). running (record { station = stationIn r; task = taskIn r; next = r .next; taken = drop (r .first) l; started = r .started; repeats = r .repeats }))
         (items-front lent rest (not (planOf st k .half)) k (r .next) long (leb-true k rally known) (let below = next-below F lawful st lent ranged k known r e in omega arith))
 
     pub view-front : viewIn F st (lent ++ rest) ≡ viewIn F st lent

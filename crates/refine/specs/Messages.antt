@@ -12,7 +12,7 @@ use Rattle.rules.specs.Payload.{Bytes}
 use Rattle.rules.specs.Messages.{Station, current, count, itemInt, itemIn}
 use Rattle.rules.specs.Model as model
 use Rattle.rules.specs.Model.{Model, idle, every, isOthers, isOwn, shownNumber, choose, inRange}
-use Rattle.rules.specs.Calls.{Request, chooses, asksList, announces, clears, acknowledges, asksItem, brings, isKnown}
+use Rattle.rules.specs.Calls.{Request, chooses, asksList, announces, changes, clears, acknowledges, asksItem, brings, isKnown}
 use Rattle.rules.specs.Step.{Stepped, Answer, says, silent, currentField, refusalText, idleAt, covered, anyOthers, onClear, onList, onRequest, onSetCurrent, onKnown, kindOk, onMessage, onAck}
 use Rattle.rule_laws.specs.Tests.{both, either₂}
 use Rattle.rule_laws.specs.Kinds.{covered-known}
@@ -29,7 +29,7 @@ use Rattle.shown.specs.Shown.{listAnswer, requestAnswer, chooseEffect, chooseAn
 use Rattle.protocol.specs.Doing.{Done, does, othersAmong, clearEffect, clearDone, planDone, knownDone, messageDone}
 use Rattle.refine.specs.After.{after, afterTurn, afterMessage}
 use Rattle.refine.specs.Views.{plan-shown, upload-shown, length-shown}
-use Rattle.refine.specs.Turned.{Agree, others-shown, empties, count-agrees, ack-agrees}
+use Rattle.refine.specs.Turned.{Agree, others-shown, empties, count-agrees, part-agrees, ack-agrees}
 use Rattle.refine.specs.Items.{item-agrees}
 
 module _ (F : Form) (lawful : Lawful F) where
@@ -52,7 +52,7 @@ module _ (F : Form) (lawful : Lawful F) where
   cleared-view st s three (k ∷ ks) known =
       let parts = both (isKnown k) (every isKnown ks) known in
       let p = emptied (planOf st k) in
-      cleared-view (renewedState st k p) s (length-set (st .plans) k p ∙ three) ks (parts .1)
+      cleared-view (renewedState false st k p) s (length-set (st .plans) k p ∙ three) ks (parts .1)
       ∙ ap (λ (m : Model). record { shown = model.empty ks (m .shown); uploads = idleAt ks (m .uploads) })
       (empties F st s three k (parts .0) (record { system = 0; component = 0 }) Silent silent refl .model)
 
@@ -166,6 +166,7 @@ module _ (F : Form) (lawful : Lawful F) where
       known-agrees (chooses seq) ok ofKind = choose-agrees k seq
       known-agrees asksList ok ofKind = list-agrees from k ok
       known-agrees (announces n) ok ofKind = count-agrees F st s three k ok from now n
+      known-agrees (changes start end) ok ofKind = part-agrees F st s three k ok from now start end
       known-agrees clears ok ofKind = clear-agrees from k ok
       known-agrees (acknowledges result) ok ofKind = any-ack-agrees from k result
       known-agrees (asksItem seq) ok ofKind = request-agrees from k seq ok

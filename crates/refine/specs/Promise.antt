@@ -12,10 +12,11 @@ use Rattle.rules.specs.Messages.{Station, sameStation}
 use Rattle.rules.specs.Model as model
 use Rattle.rules.specs.Model.{Model}
 use Rattle.rules.specs.NextCommand.{Command}
-use Rattle.rules.specs.Calls.{Call, storeLent, chooses, asksList, announces, clears, acknowledges, asksItem, brings, Heard, refuses, request, expiry, commandDone, isKnown, heard}
+use Rattle.rules.specs.Calls.{Call, storeLent, chooses, asksList, announces, changes, clears, acknowledges, asksItem, brings, Heard, refuses, request, expiry, commandDone, isKnown, heard}
 use Rattle.rules.specs.Step.{isRefused, outcomeOf, replyId, replyBytes, commandIn, ReadsBack, step}
 use Rattle.plan.specs.declared.State.{State}
 use Rattle.plan.specs.declared.Plan.{Plan}
+use Rattle.plan.specs.declared.Run.{Run}
 use Rattle.plan.specs.declared.Upload.{Upload}
 use Rattle.plan.specs.declared.Upload.the-variants.{Idle, Running}
 use Rattle.places.specs.Forms.{Store, Form, least, offsetOf}
@@ -70,16 +71,22 @@ module _ (F : Form) where
   abbrev pub LentIn : Call → ℕ → Type 0
   LentIn c n = ltb n (least F) ≡ ltb (storeLent c) storeWords
 
-  -- number i of the store is one of an item place's
-  abbrev pub inPlace : (half : Bool) (kind n i : ℕ) → Bool
-  inPlace half kind n i = leb (offsetOf F half kind n) i && ltb i (offsetOf F half kind n + F .width)
+  -- number i of the store is one of the item places from `low` on and below `high`
+  abbrev pub inPlaces : (half : Bool) (kind low high i : ℕ) → Bool
+  inPlaces half kind low high i = leb (offsetOf F half kind low) i && ltb i (offsetOf F half kind high)
+
+  -- the item which an upload expects next is the last of a part: the plan's other items are put beside it
+  abbrev pub fillsUp : Run → Bool
+  fillsUp r = r .partial && eqb (r .next) (r .last)
 
   -- An item of a kind, with number seq and from a station, may change one place: that of the item which the kind's upload expects next, in the half that the
-  -- plan is not in; and only where the upload is the station's own and seq the number that it expects.
+  -- plan is not in; where it is the last of a part, the places there of all items that the plan is to have; and only where the upload is the station's own and
+  -- seq the number that it expects.
   unfoldable pub spareIn : Plan → (kind : ℕ) → Upload → Station → (seq i : ℕ) → Bool
   spareIn p kind Idle from seq i = false
   spareIn p kind (Running r) from seq i =
-      sameStation from (stationIn r) && eqb seq (r .next) && inPlace (not (p .half)) kind (r .next) i
+      sameStation from (stationIn r) && eqb seq (r .next)
+      && inPlaces (not (p .half)) kind (cond (fillsUp r) 0 (r .next)) (cond (fillsUp r) (r .count) (r .next + 1)) i
 
   -- no other call changes anything in the store
   unfoldable pub spareAt : State → Heard → ℕ → Bool
@@ -87,6 +94,7 @@ module _ (F : Form) where
   spareAt st (request from now kind (chooses seq)) i = false
   spareAt st (request from now kind asksList) i = false
   spareAt st (request from now kind (announces n)) i = false
+  spareAt st (request from now kind (changes start end)) i = false
   spareAt st (request from now kind clears) i = false
   spareAt st (request from now kind (acknowledges result)) i = false
   spareAt st (request from now kind (asksItem seq)) i = false
@@ -94,7 +102,7 @@ module _ (F : Form) where
   spareAt st (expiry now kind) i = false
   spareAt st commandDone i = false
 
-  -- What a call may change in the store though nothing shows it. What an item changes there that is invalid, or the last of a fence that fails, is free; an item
+  -- What a call may change in the store though nothing shows it. What an item changes there that is invalid, or the last of a whole that fails, is free; an item
   -- that is taken is shown.
   abbrev pub spare : State → Call → ℕ → Bool
   spare st c i = spareAt st (heard true c) i

@@ -2,7 +2,7 @@
 use Prim.Native.Nat.{ℕ, _≤_}
 use mathlib.Core.Path.{_≡_, refl, sym, ap, ap₂, subst, _∙_}
 use mathlib.Core.List.{List, [], _∷_, _++_}
-use mathlib.Core.Bool.{true}
+use mathlib.Core.Bool.{true, false}
 use lib.ListN.{length, getD, take, drop, length-set}
 use lib.Seq.{take-at}
 use borrow.Author.Tests.{le-ltb, ltb-false}
@@ -21,7 +21,7 @@ use Rattle.places.specs.Places.{Lawful}
 use Rattle.plan.specs.declared.State.{State}
 use Rattle.plan.specs.View.{planOf, viewIn}
 use Rattle.upload.specs.declared.Effect.{Effect}
-use Rattle.upload.specs.declared.Effect.the-variants.{Nothing, Turns, Renews, EmptiesAll, Chooses}
+use Rattle.upload.specs.declared.Effect.the-variants.{Nothing, Turns, Renews, Changes, EmptiesAll, Chooses}
 use Rattle.upload.specs.Turns.{emptied}
 use Rattle.upload.specs.Effects.{renewedState, emptiedState, applied}
 use Rattle.protocol.specs.Doing.{messageDone, timerDone}
@@ -83,12 +83,13 @@ module _ (F : Form) (lawful : Lawful F) where
   emptied-three st [] three = three
   emptied-three st (k ∷ ks) three =
       let p = emptied (planOf st k) in
-      emptied-three (renewedState st k p) ks (length-set (st .plans) k p ∙ three)
+      emptied-three (renewedState false st k p) ks (length-set (st .plans) k p ∙ three)
 
   applied-three : (st : State) (k : ℕ) (e : Effect) → Three st → Three (applied st k e)
   unfolding renewedState
   applied-three st k Nothing three = three
   applied-three st k (Turns p) three = length-set (st .plans) k p ∙ three
+  applied-three st k (Changes p) three = length-set (st .plans) k p ∙ three
   applied-three st k (Renews p) three = length-set (st .plans) k p ∙ three
   applied-three st k EmptiesAll three = emptied-three st kinds three
   applied-three st k (Chooses seq) three = three

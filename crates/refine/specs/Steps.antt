@@ -1,20 +1,19 @@
 -- What the code's step keeps of the promise: the model, the answer, halves, and all of the store beside the spare places.
-use Prim.Native.Nat.{ℕ, _+_, _≤_, _<_}
+use Prim.Native.Nat.{ℕ, _+_, _≤_}
 use native.Mathlib.Omega.{arith}
 use mathlib.Core.Path.{_≡_, refl, sym, ap, ap₂, subst, _∙_}
-use mathlib.Core.Logic.{_⊎_, ⊎-elim}
 use mathlib.Core.List.{List, [], _∷_}
-use mathlib.Core.Bool.{Bool, true, false, true≢false, not, cond, _&&_, or-false}
+use mathlib.Core.Bool.{Bool, true, false, true≢false, not, cond, _&&_, and-false, or-false}
 use lib.ListN.{length, getD, set, length-set}
 use lib.Dec.{eqb, ltb}
-use borrow.Author.Tests.{leb-true, le-leb, eq-eqb, ne-eqb, eqb-true, not-false}
+use borrow.Author.Tests.{leb-true, le-leb, eq-eqb, ne-eqb, eqb-true, not-true, not-false}
 use Rattle.rules.specs.Limits.{flight, rally, kinds, everyKind, sizeOf, accepted, maxRepeats, expiryMs, lastNumber}
 use Rattle.rules.specs.Messages.{Station, Item, sameStation}
 use Rattle.rules.specs.Model as model
-use Rattle.rules.specs.Model.{Model, nextNumber, elapsed, wholeOk, every, inRange}
-use Rattle.rules.specs.Calls.{Call, Request, chooses, asksList, announces, clears, acknowledges, asksItem, brings, Heard, refuses, request, expiry, commandDone, isKnown, heard}
+use Rattle.rules.specs.Model.{Model, wholeTask, partTask, nextNumber, elapsed, wholeFault, every, inRange}
+use Rattle.rules.specs.Calls.{Call, Request, chooses, asksList, announces, changes, clears, acknowledges, asksItem, brings, Heard, refuses, request, expiry, commandDone, isKnown, heard}
 use Rattle.rules.specs.NextCommand.{next, answerOf, advance}
-use Rattle.rules.specs.Step.{refused, orders, isRefused, Stepped, covered, kindOk, act, step}
+use Rattle.rules.specs.Step.{refused, orders, isRefused, Stepped, partOk, covered, kindOk, act, step}
 use Rattle.rule_laws.specs.Tests.{both, either, outside}
 use Rattle.rule_laws.specs.Kinds.{known-below}
 use Rattle.rule_laws.specs.Lists.{at-set}
@@ -25,24 +24,24 @@ use Rattle.plan.specs.declared.Plan.{Plan}
 use Rattle.plan.specs.declared.Run.{Run}
 use Rattle.plan.specs.declared.Upload.{Upload}
 use Rattle.plan.specs.declared.Upload.the-variants.{Idle, Running}
-use Rattle.places.specs.Part.{getD-put-before, getD-put-after}
-use Rattle.places.specs.Forms.{Store, Form, least, itemsIn, offsetOf}
-use Rattle.places.specs.Places.{Lawful, offset-within}
-use Rattle.places.specs.Writes.{length-stays}
-use Rattle.plan.specs.View.{emptyPlan, planOf, viewIn, stationIn}
+use Rattle.places.specs.Forms.{Store, Form, least, offsetOf}
+use Rattle.places.specs.Places.{Lawful}
+use Rattle.places.specs.Writes.{Leaves}
+use Rattle.places.specs.Carried.{filled}
+use Rattle.plan.specs.View.{emptyPlan, planOf, viewIn, stationIn, taskIn}
 use Rattle.upload.specs.declared.Effect.{Effect}
-use Rattle.upload.specs.declared.Effect.the-variants.{Nothing, Turns, Renews, EmptiesAll, Chooses}
+use Rattle.upload.specs.declared.Effect.the-variants.{Nothing, Turns, Renews, Changes, EmptiesAll, Chooses}
 use Rattle.upload.specs.declared.Turned.{Turned}
-use Rattle.upload.specs.Turns.{withUpload, ended, emptied, replaced, started, oneMore, askedAgain, othersUpload, ownUpload, countTurned, ackTurned, timerTurned, TurnAndStore, validItemTurned, itemVerdict, itemTurned, stored}
+use Rattle.upload.specs.Turns.{withUpload, ended, emptied, replaced, started, oneMore, askedAgain, othersUpload, ownUpload, countTurned, partTurned, ackTurned, timerTurned, TurnAndStore, settled, lastTurned, validItemTurned, itemVerdict, itemTurned, stored}
 use Rattle.upload.specs.Effects.{turnedState, renewedState, emptiedState, applied}
 use Rattle.shown.specs.Shown.{chooseEffect}
 use Rattle.protocol.specs.Doing.{Done, othersAmong, clearEffect, clearDone, planDone, knownDone, messageDone, timerDone}
 use Rattle.refine.specs.After.{After, gives, afterMessage, afterTimer}
 use Rattle.refine.specs.Views.{plan-shown}
 use Rattle.refine.specs.Turned.{Agree, timer-agrees}
-use Rattle.refine.specs.Items.{next-below}
+use Rattle.refine.specs.Items.{written, settled-leaves}
 use Rattle.refine.specs.Messages.{unknown-turn, message-agrees}
-use Rattle.refine.specs.Promise.{numberOf, halfOf, inPlace, spareIn, spareAt, spare}
+use Rattle.refine.specs.Promise.{numberOf, halfOf, inPlaces, fillsUp, spareIn, spareAt, spare}
 
 module _ (F : Form) (lawful : Lawful F) where
   -- ---- halves
@@ -69,6 +68,7 @@ module _ (F : Form) (lawful : Lawful F) where
   EffectOk k p Nothing = Unit
   EffectOk k p (Turns q) = (isKnown k ≡ true) × HalfOk p q
   EffectOk k p (Renews q) = (isKnown k ≡ true) × HalfOk p q
+  EffectOk k p (Changes q) = (isKnown k ≡ true) × HalfOk p q
   EffectOk k p EmptiesAll = Unit
   EffectOk k p (Chooses seq) = Unit
 
@@ -93,7 +93,13 @@ module _ (F : Form) (lawful : Lawful F) where
     unfolding countTurned
     count-ok from now n size =
         either TurnOk (othersUpload from (p .upload)) (λ t. tt)
-        (λ t. either TurnOk (ltb size n) (λ t. ended-ok) (λ t. either TurnOk (eqb n 0) (λ t. emptied-ok) (λ t. runs-ok (started from now n))))
+        (λ t. either TurnOk (ltb size n) (λ t. ended-ok) (λ t. either TurnOk (eqb n 0) (λ t. emptied-ok) (λ t. runs-ok (started from now (wholeTask n)))))
+
+    part-ok : (from : Station) (now start end : ℕ) → TurnOk (partTurned p from now start end)
+    unfolding partTurned
+    part-ok from now start end =
+        either TurnOk (othersUpload from (p .upload)) (λ t. tt)
+        (λ t. either TurnOk (not (partOk (p .len) start end)) (λ t. ended-ok) (λ t. runs-ok (started from now (partTask (p .len) start end))))
 
     ack-ok : (from : Station) (result : ℕ) → TurnOk (ackTurned p from result)
     unfolding ackTurned
@@ -112,11 +118,15 @@ module _ (F : Form) (lawful : Lawful F) where
     abbrev StoredTurnOk : TurnAndStore → Type 0
     StoredTurnOk t = TurnOk (t .turned)
 
+    puts-ok : (partial : Bool) (n : ℕ) → EffectOk k p (cond partial (Changes (replaced p n)) (Renews (replaced p n)))
+    puts-ok true n = replaced-ok n
+    puts-ok false n = replaced-ok n
+
     valid-ok : (s : Store) (r : Run) (now : ℕ) → StoredTurnOk (validItemTurned F s k p r now)
-    unfolding validItemTurned
+    unfolding validItemTurned lastTurned
     valid-ok s r now =
-        either StoredTurnOk (not (eqb (r .next + 1) (r .count))) (λ t. runs-ok (oneMore r now))
-        (λ t. either StoredTurnOk (wholeOk k _) (λ t. replaced-ok (r .count)) (λ t. ended-ok))
+        either StoredTurnOk (not (eqb (r .next) (r .last))) (λ t. runs-ok (oneMore r now))
+        (λ t. either TurnOk (eqb (wholeFault k (taskIn r) _) accepted) (λ t. puts-ok (r .partial) (r .count)) (λ t. ended-ok))
 
     item-ok : (s : Store) (u : Upload) (from : Station) (now : ℕ) (item : Item) → StoredTurnOk (itemTurned F s k u p from now item)
     unfolding itemTurned
@@ -149,8 +159,8 @@ module _ (F : Form) (lawful : Lawful F) where
   cleared-still st three (k ∷ ks) known =
       let parts = both (isKnown k) (every isKnown ks) known in
       let p = emptied (planOf st k) in
-      let rest = cleared-still (renewedState st k p) (length-set (st .plans) k p ∙ three) ks (parts .1) in
-      let at : (j : ℕ) → planOf (renewedState st k p) j ≡ cond (eqb k j) p (planOf st j) = λ j. put-plan st three k j p (parts .0) in
+      let rest = cleared-still (renewedState false st k p) (length-set (st .plans) k p ∙ three) ks (parts .1) in
+      let at : (j : ℕ) → planOf (renewedState false st k p) j ≡ cond (eqb k j) p (planOf st j) = λ j. put-plan st three k j p (parts .0) in
       record {
         half = λ j. rest .half j ∙ ap (λ (p : Plan). p .half) (at j) ∙ either (λ (p : Plan). p .half ≡ planOf st j .half) (eqb k j) (λ e. ap (λ (i : ℕ). planOf st i .half) (eqb-true k j e)) (λ e. refl);
         number = λ j. rest .number j ∙ ap (λ (p : Plan). p .number) (at j) ∙ either (λ (p : Plan). p .number ≡ planOf st j .number) (eqb k j) (λ e. ap (λ (i : ℕ). planOf st i .number) (eqb-true k j e)) (λ e. refl);
@@ -170,7 +180,8 @@ module _ (F : Form) (lawful : Lawful F) where
   unfolding renewedState
   effect-halves st three k Nothing ok = halves-same st
   effect-halves st three k (Turns p) ok = put-halves st (turnedState st k p) three k p refl ok
-  effect-halves st three k (Renews p) ok = put-halves st (renewedState st k p) three k p refl ok
+  effect-halves st three k (Renews p) ok = put-halves st (renewedState false st k p) three k p refl ok
+  effect-halves st three k (Changes p) ok = put-halves st (renewedState true st k p) three k p refl ok
   effect-halves st three k EmptiesAll ok = still-halves st (emptiedState st kinds) (cleared-still st three kinds refl)
   effect-halves st three k (Chooses seq) ok = halves-same st
 
@@ -184,30 +195,44 @@ module _ (F : Form) (lawful : Lawful F) where
   beside-same s free = record { numbers = λ i e. refl; long = refl }
 
   module _ (st : State) (s : Store) (long : least F ≤ length s) (ranged : inRange (viewIn F st s) ≡ true) (k : ℕ) (known : isKnown k ≡ true) where
-    -- a write at the upload's next place
-    written : (r : Run) (item : Item) → planOf st k .upload ≡ Running r → Beside s (inPlace F (not (planOf st k .half)) k (r .next)) (stored F s k (planOf st k) r item)
-    written r item runs =
+    -- writes among places of the half that the plan is not in
+    leaves-beside : (low high : ℕ) (s′ : Store) → Leaves F (not (planOf st k .half)) k low high s s′ → Beside s (inPlaces F (not (planOf st k .half)) k low high) s′
+    leaves-beside low high s′ leaves =
         let half = not (planOf st k .half) in
-        let at = offsetOf F half k (r .next) in
-        let small : k ≤ rally = leb-true k rally known in
-        let below : r .next < sizeOf k = next-below F lawful st s ranged k known r runs in
-        let whole = lawful .wide item in
-        let fits : at + length (F .keeps item) ≤ length s = omega (arith, offset-within F lawful half k (r .next) small below) in
-        record {
-          numbers = λ i e.
-              ⊎-elim (λ (lower : i < at). getD-put-before s at (F .keeps item) fits i lower) (λ (upper : at + F .width ≤ i). getD-put-after s at (F .keeps item) fits i (omega arith))
-              (outside at (at + F .width) i e);
-          long = length-stays F lawful s long (F .keeps item) whole half k (r .next) small below;
-        }
+        record { numbers = λ i e. leaves .numbers i (outside (offsetOf F half k low) (offsetOf F half k high) i e); long = leaves .long }
 
     -- by the upload's own station, with the number expected
-    own-written :
-        (r : Run) (from : Station) (item : Item) → planOf st k .upload ≡ Running r → sameStation from (stationIn r) ≡ true → eqb (item .seq) (r .next) ≡ true
-        → Beside s (spareIn F (planOf st k) k (Running r) from (item .seq)) (stored F s k (planOf st k) r item)
-    unfolding spareIn
-    own-written r from item runs own turn =
-        let after = written r item runs in
-        record { numbers = λ i e. after .numbers i (rw (own, turn) at e); long = after .long }
+    module _ (r : Run) (from : Station) (item : Item) (runs : planOf st k .upload ≡ Running r) (own : sameStation from (stationIn r) ≡ true) (turn : eqb (item .seq) (r .next) ≡ true) where
+      abbrev p : Plan
+      p = planOf st k
+
+      own-beside : (s′ : Store) → Leaves F (not (p .half)) k (cond (fillsUp F r) 0 (r .next)) (cond (fillsUp F r) (r .count) (r .next + 1)) s s′ → Beside s (spareIn F p k (Running r) from (item .seq)) s′
+      unfolding spareIn
+      own-beside s′ leaves =
+          let after = leaves-beside (cond (fillsUp F r) 0 (r .next)) (cond (fillsUp F r) (r .count) (r .next + 1)) s′ leaves in
+          record { numbers = λ i e. after .numbers i (rw (own, turn) at e); long = after .long }
+
+      -- an item that is not the last
+      more-beside : eqb (r .next) (r .last) ≡ false → Beside s (spareIn F p k (Running r) from (item .seq)) (stored F s k p r item)
+      more-beside e =
+          own-beside (stored F s k p r item)
+          (subst (λ (b : Bool). Leaves F (not (p .half)) k (cond b 0 (r .next)) (cond b (r .count) (r .next + 1)) s (stored F s k p r item))
+          (sym (ap (λ (b : Bool). r .partial && b) e ∙ and-false (r .partial))) (written F lawful st s long ranged k known r runs item))
+
+      -- the last
+      last-beside : eqb (r .next) (r .last) ≡ true → Beside s (spareIn F p k (Running r) from (item .seq)) (settled F (stored F s k p r item) k p r)
+      unfolding settled
+      last-beside e = own-beside (settled F (stored F s k p r item) k p r) (go (r .partial) refl)
+        where
+          go : (b : Bool) → r .partial ≡ b
+              → Leaves F (not (p .half)) k (cond (fillsUp F r) 0 (r .next)) (cond (fillsUp F r) (r .count) (r .next + 1)) s (settled F (stored F s k p r item) k p r)
+          go true part =
+              subst (λ (b : Bool). Leaves F (not (p .half)) k (cond b 0 (r .next)) (cond b (r .count) (r .next + 1)) s (settled F (stored F s k p r item) k p r))
+              (sym (ap₂ _&&_ part e)) (settled-leaves F lawful st s long ranged k known r runs item)
+          go false all =
+              subst (λ (b : Bool). Leaves F (not (p .half)) k (cond b 0 (r .next)) (cond b (r .count) (r .next + 1)) s (settled F (stored F s k p r item) k p r)) (sym (ap₂ _&&_ all e))
+              (subst (λ (b : Bool). Leaves F (not (p .half)) k (r .next) (r .next + 1) s (cond b (filled F (stored F s k p r item) (p .half) k (taskIn r)) (stored F s k p r item))) (sym all)
+              (written F lawful st s long ranged k known r runs item))
 
     item-beside :
         (u : Upload) → planOf st k .upload ≡ u → (from : Station) (now : ℕ) (item : Item)
@@ -217,13 +242,12 @@ module _ (F : Form) (lawful : Lawful F) where
     item-beside (Running r) e from now item =
         let free = spareIn F (planOf st k) k (Running r) from (item .seq) in
         let p = planOf st k in
-        let s′ = stored F s k p r item in
         either Left (not (sameStation from (stationIn r))) (λ t. beside-same s free)
         (λ own. either Left (not (eqb (item .seq) (r .next))) (λ t. beside-same s free)
-        (λ turn. let after = own-written r from item e (not-false (sameStation from (stationIn r)) own) (not-false (eqb (item .seq) (r .next)) turn) in
-        either Left (not (eqb (itemVerdict F s k p r item) accepted)) (λ t. beside-same s free)
-        (λ t. either Left (not (eqb (r .next + 1) (r .count))) (λ t. after)
-        (λ t. either Left (wholeOk k (itemsIn F s′ (not (p .half)) k (r .count))) (λ t. after) (λ t. after)))))
+        (λ turn. either Left (not (eqb (itemVerdict F s k p r item) accepted)) (λ t. beside-same s free)
+        (λ t. either Left (not (eqb (r .next) (r .last)))
+        (λ more. more-beside r from item e (not-false (sameStation from (stationIn r)) own) (not-false (eqb (item .seq) (r .next)) turn) (not-true (eqb (r .next) (r .last)) more))
+        (λ last. last-beside r from item e (not-false (sameStation from (stationIn r)) own) (not-false (eqb (item .seq) (r .next)) turn) (not-false (eqb (r .next) (r .last)) last)))))
       where
         Left : TurnAndStore → Type 0
         Left t = Beside s (spareIn F (planOf st k) k (Running r) from (item .seq)) (t .store)
@@ -254,6 +278,7 @@ module _ (F : Form) (lawful : Lawful F) where
     known-effect (chooses seq) ok = either (EffectOk k (planOf st k)) (ltb seq (planOf st flight .len)) (λ t. tt) (λ t. tt)
     known-effect asksList ok = tt
     known-effect (announces n) ok = count-ok k ok (planOf st k) from now n (sizeOf k)
+    known-effect (changes start end) ok = part-ok k ok (planOf st k) from now start end
     known-effect clears ok = either DoneOk (othersAmong (st .plans) from (covered k)) (λ t. tt) (λ t. clear-effect ok)
     known-effect (acknowledges result) ok = ack-effect result
     known-effect (asksItem seq) ok = tt
@@ -274,6 +299,7 @@ module _ (F : Form) (lawful : Lawful F) where
     known-beside (chooses seq) ok = beside-same s (λ i. false)
     known-beside asksList ok = beside-same s (λ i. false)
     known-beside (announces n) ok = beside-same s (λ i. false)
+    known-beside (changes start end) ok = beside-same s (λ i. false)
     known-beside clears ok = either (Left clears) (othersAmong (st .plans) from (covered k)) (λ t. beside-same s (λ i. false)) (λ t. beside-same s (λ i. false))
     known-beside (acknowledges result) ok = beside-same s (λ i. false)
     known-beside (asksItem seq) ok = beside-same s (λ i. false)

@@ -1,16 +1,19 @@
--- Each turn of one kind commutes with the view: COUNT, ACK and the timer.
+-- Each turn of one kind commutes with the view: COUNT, MISSION_WRITE_PARTIAL_LIST, ACK and the timer.
 use Prim.Native.Nat.{ℕ}
 use mathlib.Core.Path.{_≡_, refl, sym, ap, _∙_}
-use mathlib.Core.List.{[], _∷_}
-use mathlib.Core.Bool.{Bool, true, not, _&&_}
-use lib.ListN.{length, set}
+use mathlib.Core.List.{List, [], _∷_}
+use mathlib.Core.Bool.{Bool, true, false, not, _&&_}
+use lib.ListN.{length, set, drop}
 use lib.Dec.{eqb, ltb}
-use Rattle.rules.specs.Limits.{kinds, sizeOf, maxRepeats, expiryMs, accepted, noSpace, denied, cancelled}
+use lib.ListN.{drop-of-length-le}
+use native.Mathlib.Nat.{le-of-eq}
+use Rattle.rules.specs.Limits.{kinds, sizeOf, maxRepeats, expiryMs, accepted, noSpace, invalidSequence, denied, cancelled}
+use Rattle.rules.specs.Payload.{Bytes}
 use Rattle.rules.specs.Messages.{Station}
 use Rattle.rules.specs.Model as model
-use Rattle.rules.specs.Model.{idle, running, elapsed, isOthers, isOwn, withPlan}
+use Rattle.rules.specs.Model.{Task, wholeTask, partTask, idle, running, elapsed, isOthers, isOwn, withPlan}
 use Rattle.rules.specs.Calls.{isKnown}
-use Rattle.rules.specs.Step.{Stepped, Answer, silent, acks, requests, onCount, onAck, onTimer}
+use Rattle.rules.specs.Step.{Stepped, Answer, silent, acks, requests, opens, onCount, partOk, onPartial, onAck, onTimer}
 use Rattle.rule_laws.specs.Tests.{either₂}
 use Rattle.plan.specs.declared.State.{State}
 use Rattle.plan.specs.declared.Plan.{Plan}
@@ -22,11 +25,12 @@ use Rattle.plan.specs.View.{planOf, runIn, uploadIn, viewIn}
 use Rattle.upload.specs.declared.Say.{Say}
 use Rattle.upload.specs.declared.Say.the-variants.{Silent, Ack, Ask}
 use Rattle.upload.specs.declared.Turned.{Turned}
-use Rattle.upload.specs.Turns.{stationOf, withUpload, ended, emptied, started, askedAgain, othersUpload, ownUpload, keeps, moves, renews, countTurned, ackTurned, timerTurned}
+use Rattle.upload.specs.Turns as turns
+use Rattle.upload.specs.Turns.{stationOf, withUpload, ended, emptied, started, askedAgain, othersUpload, ownUpload, keeps, moves, renews, countTurned, partTurned, ackTurned, timerTurned}
 use Rattle.answers.specs.Answered.{answerOf}
 use Rattle.protocol.specs.Doing.{timerDone}
 use Rattle.refine.specs.After.{After, afterTurn, afterTimer}
-use Rattle.refine.specs.Views.{plan-shown, upload-shown, view-upload, view-renewed}
+use Rattle.refine.specs.Views.{plan-shown, upload-shown, length-shown, view-upload, view-renewed}
 
 module _ (F : Form) where
   -- the code's step shows the rules' model, and gives the rules' answer
@@ -75,22 +79,43 @@ module _ (F : Form) where
     empties say a e =
         record {
           model =
-              view-renewed F st s three k (emptied (planOf st k)) known
+              view-renewed F st s three false k (emptied (planOf st k)) known
               ∙ ap
-              (λ (n : ℕ). record { shown = withPlan k (record { items = []; number = n }) (viewIn F st s .shown); uploads = set (viewIn F st s .uploads) k idle })
+              (λ (n : ℕ). record { shown = withPlan false k (record { items = []; number = n }) (viewIn F st s .shown); uploads = set (viewIn F st s .uploads) k idle })
               (sym (ap (λ (q : model.Plan). q .number) (plan-shown F st s k known)));
           answer = e;
         }
 
+    -- an upload starts: no item is taken yet
+    opened : (now : ℕ) (t : Task) → Agrees (turns.opens (planOf st k) to now t) (opens (viewIn F st s) to now k t)
+    opened now t =
+        let after = runs (started to now t) (Ask (t .first)) (requests to (t .first) k) refl in
+        record {
+          model =
+              after .model
+              ∙ ap (λ (l : List Bytes). record { shown = viewIn F st s .shown; uploads = set (viewIn F st s .uploads) k (running (record { station = to; task = t; next = t .first; taken = l; started = now; repeats = 0 })) })
+              (drop-of-length-le (itemsIn F s (not (planOf st k .half)) k (t .first)) (le-of-eq (length-items F s (not (planOf st k .half)) k (t .first))));
+          answer = after .answer;
+        }
+
     -- COUNT, from the station that is answered
     pub count-agrees : (now n : ℕ) → Agrees (countTurned (planOf st k) to now n (sizeOf k)) (onCount (viewIn F st s) to now k n)
-    unfolding countTurned onCount itemsIn
+    unfolding countTurned onCount
     count-agrees now n =
         rw (upload-shown F st s k known, others-shown to s (not (planOf st k .half)) k (planOf st k .upload))
         (either₂ Agrees (othersUpload to (planOf st k .upload)) (λ t. kept (Ack denied 0) (acks to denied k) refl)
         (λ t. either₂ Agrees (ltb (sizeOf k) n) (λ t. ends (Ack noSpace 0) (acks to noSpace k) refl)
         (λ t. either₂ Agrees (eqb n 0) (λ t. empties (Ack accepted 0) (acks to accepted k) refl)
-        (λ t. runs (started to now n) (Ask 0) (requests to 0 k) refl))))
+        (λ t. opened now (wholeTask n)))))
+
+    -- MISSION_WRITE_PARTIAL_LIST
+    pub part-agrees : (now start end : ℕ) → Agrees (partTurned (planOf st k) to now start end) (onPartial (viewIn F st s) to now k start end)
+    unfolding partTurned onPartial
+    part-agrees now start end =
+        rw (upload-shown F st s k known, others-shown to s (not (planOf st k .half)) k (planOf st k .upload), length-shown F st s k known)
+        (either₂ Agrees (othersUpload to (planOf st k .upload)) (λ t. kept (Ack denied 0) (acks to denied k) refl)
+        (λ t. either₂ Agrees (not (partOk (planOf st k .len) start end)) (λ t. ends (Ack invalidSequence 0) (acks to invalidSequence k) refl)
+        (λ t. opened now (partTask (planOf st k .len) start end))))
 
     -- ACK
     pub ack-agrees : (result : ℕ) → Agrees (ackTurned (planOf st k) to result) (onAck (viewIn F st s) to k result)
@@ -107,10 +132,9 @@ module _ (F : Form) where
   timer-by st s three k known now Idle = kept st s three k known (stationOf Idle) Silent silent refl
   timer-by st s three k known now (Running r) =
       let to = stationOf (Running r) in
-      let next = length-items F s (not (planOf st k .half)) k (r .next) in
       either₂ (Agrees st s three k known to) (ltb (elapsed now (r .started)) expiryMs) (λ t. kept st s three k known to Silent silent refl)
       (λ t. either₂ (Agrees st s three k known to) (ltb (r .repeats) maxRepeats)
-      (λ t. runs st s three k known to (askedAgain r now) (Ask (r .next)) (requests to (length (itemsIn F s (not (planOf st k .half)) k (r .next))) k) (ap (λ (n : ℕ). requests to n k) (sym next)))
+      (λ t. runs st s three k known to (askedAgain r now) (Ask (r .next)) (requests to (r .next) k) refl)
       (λ t. ends st s three k known to (Ack cancelled 0) (acks to cancelled k) refl))
 
   pub timer-agrees :

@@ -2,7 +2,7 @@
 use Prim.Native.Nat.{ℕ}
 use mathlib.Core.Path.{_≡_, refl, ap, _∙_}
 use mathlib.Core.List.{List, map}
-use mathlib.Core.Bool.{true, false, not, cond}
+use mathlib.Core.Bool.{Bool, true, false, not, cond, _&&_}
 use lib.ListN.{length, getD, set}
 use lib.Dec.{eqb}
 use Rattle.rules.specs.Limits.{flight, fence, rally, kinds}
@@ -65,16 +65,16 @@ module _ (F : Form) where
         (record { shown = viewIn F st s .shown; uploads = set (viewIn F st s .uploads) k (uploadIn F s (not (planOf st k .half)) k u) }))
         refl refl refl k known
 
-    -- the plan of one kind is replaced or emptied
+    -- the plan of one kind is replaced or emptied, or a part of it is replaced
     pub view-renewed :
-        (k : ℕ) (p : Plan) → isKnown k ≡ true
-        → viewIn F (renewedState st k p) s
-        ≡ record { shown = withPlan k (planIn F s k p) (viewIn F st s .shown); uploads = set (viewIn F st s .uploads) k (uploadIn F s (not (p .half)) k (p .upload)) }
+        (partial : Bool) (k : ℕ) (p : Plan) → isKnown k ≡ true
+        → viewIn F (renewedState partial st k p) s
+        ≡ record { shown = withPlan partial k (planIn F s k p) (viewIn F st s .shown); uploads = set (viewIn F st s .uploads) k (uploadIn F s (not (p .half)) k (p .upload)) }
     unfolding viewIn withPlan renewedState
-    view-renewed k p known =
+    view-renewed partial k p known =
         rw (at k flight p known, at k fence p known, at k rally p known)
         (each-kind
         (λ (k : ℕ). _≡_ {A = Model}
-        (record { shown = record { plans = shownWith k p; current = cond (eqb k flight) 0 (st .current); begun = cond (eqb k flight) false (st .begun); counts = cond (eqb k flight) model.noCounts (st .counts) }; uploads = uploadsWith k p })
-        (record { shown = withPlan k (planIn F s k p) (viewIn F st s .shown); uploads = set (viewIn F st s .uploads) k (uploadIn F s (not (p .half)) k (p .upload)) }))
+        (record { shown = record { plans = shownWith k p; current = cond (eqb k flight && not partial) 0 (st .current); begun = cond (eqb k flight && not partial) false (st .begun); counts = cond (eqb k flight) model.noCounts (st .counts) }; uploads = uploadsWith k p })
+        (record { shown = withPlan partial k (planIn F s k p) (viewIn F st s .shown); uploads = set (viewIn F st s .uploads) k (uploadIn F s (not (p .half)) k (p .upload)) }))
         refl refl refl k known)
