@@ -15,7 +15,7 @@ use Rattle.rules.specs.Limits.{flight, fence, rally, kinds, sizeOf, storeWords,
 use Rattle.rules.specs.Payload.{Bytes}
 use Rattle.rules.specs.Messages.{Station, Message, decode}
 use Rattle.rules.specs.Model as model
-use Rattle.rules.specs.Model.{inRange, elapsed}
+use Rattle.rules.specs.Model.{inRange, elapsed, noCounts}
 use Rattle.rules.specs.NextCommand as rules
 use Rattle.rules.specs.Calls.{Call, message, timer, done, Request, request, expiry, commandDone, heard}
 use Rattle.rules.specs.Step.{orders, commandIn, onMessage, onTimer}
@@ -40,7 +40,7 @@ use Rattle.upload.specs.declared.Turned.{Turned}
 use Rattle.upload.specs.Turns.{emptied, timerTurned}
 use Rattle.upload.specs.Effects.{turnedState, renewedState, emptiedState, chosenState, applied}
 use Rattle.upload.specs.declared.Effect.{Effect}
-use Rattle.upload.specs.declared.Effect.the-variants.{Nothing, Turns, Renews, EmptiesAll, Chooses}
+use Rattle.upload.specs.declared.Effect.the-variants.{Nothing, Turns, Renews, Changes, EmptiesAll, Chooses}
 use Rattle.upload.proofs.Effect.{the-type}
 use Rattle.answers.specs.declared.Handled.{Handled}
 use Rattle.answers.specs.Answered.{Handles}
@@ -221,6 +221,20 @@ module _ (st : State) (s : Store) (b : Bytes) (own from : Station) (id : ℕ) (p
         rw (new, stands (leb-true k rally (effect-ok (Renews plan) is .0)))
         (rw (eq-eqb k flight first) at (message-serves (Renews plan) is))
 
+    pub message-changes : h .effect ≡ Changes plan → (k ≡ flight → ⊥) → Serves c st s s′ b b′ (servedResult (served (turnedState st place plan) h))
+    unfolding renewedState
+    message-changes is other =
+        rw (stands (leb-true k rally (effect-ok (Changes plan) is .0)))
+        (rw (ne-eqb k flight other) at (message-serves (Changes plan) is))
+
+    pub message-recounts :
+        h .effect ≡ Changes plan → k ≡ flight
+        → Serves c st s s′ b b′ (servedResult (served (record { plans = set (st .plans) place plan; current = st .current; begun = st .begun; counts = noCounts }) h))
+    unfolding renewedState
+    message-recounts is first =
+        rw (stands (leb-true k rally (effect-ok (Changes plan) is .0)))
+        (rw (eq-eqb k flight first) at (message-serves (Changes plan) is))
+
 -- ---- timer
 
 -- a timer call that is not refused
@@ -256,6 +270,7 @@ abbrev TurnsAtMost : Effect → Type 0
 TurnsAtMost Nothing = Unit
 TurnsAtMost (Turns p) = Unit
 TurnsAtMost (Renews p) = ⊥
+TurnsAtMost (Changes p) = ⊥
 TurnsAtMost EmptiesAll = ⊥
 TurnsAtMost (Chooses seq) = ⊥
 
@@ -269,11 +284,14 @@ turns-at-most p now (Running r) =
     Of t = TurnsAtMost (t .effect)
 
 -- where it is none of the others it is nothing
-no-turn : (e : Effect) → TurnsAtMost e → OneOf (0 ∷ 2 ∷ 3 ∷ 4 ∷ []) (tagOf the-type e) → e ≡ Nothing
+no-turn : (e : Effect) → TurnsAtMost e → OneOf (0 ∷ 2 ∷ 3 ∷ 4 ∷ 5 ∷ []) (tagOf the-type e) → e ≡ Nothing
 no-turn Nothing least tag = refl
 no-turn (Turns p) least tag =
-    absurd (⊎-elim (λ h. omega arith) (λ other. ⊎-elim (λ h. omega arith) (λ another. ⊎-elim (λ h. omega arith) (λ h. omega arith) another) other) tag)
+    absurd
+    (⊎-elim (λ h. omega arith)
+    (λ other. ⊎-elim (λ h. omega arith) (λ another. ⊎-elim (λ h. omega arith) (λ last. ⊎-elim (λ h. omega arith) (λ h. omega arith) last) another) other) tag)
 no-turn (Renews p) least tag = absurd least
+no-turn (Changes p) least tag = absurd least
 no-turn EmptiesAll least tag = absurd least
 no-turn (Chooses seq) least tag = absurd least
 
@@ -295,7 +313,7 @@ module _ (st : State) (s : Store) (b : Bytes) (kind clock : ℕ) (taken : TimerT
   pub timer-turns : (plan : Plan) → h .effect ≡ Turns plan → Serves (timer kind clock (length s) (length b)) st s s b b′ (servedResult (served (turnedState st kind plan) h))
   timer-turns plan is = timer-serves (Turns plan) is
 
-  pub timer-nothing : OneOf (0 ∷ 2 ∷ 3 ∷ 4 ∷ []) (tagOf the-type (h .effect)) → Serves (timer kind clock (length s) (length b)) st s s b b′ (servedResult (served st h))
+  pub timer-nothing : OneOf (0 ∷ 2 ∷ 3 ∷ 4 ∷ 5 ∷ []) (tagOf the-type (h .effect)) → Serves (timer kind clock (length s) (length b)) st s s b b′ (servedResult (served st h))
   unfolding timerDone
   timer-nothing tag =
       let p = planOf st kind in

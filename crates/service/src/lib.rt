@@ -11,6 +11,7 @@ ghost use Rattle.rules.specs.Calls as calls;
 ghost use Rattle.service.specs.Calls.{Serves, servedResult, advanceResult};
 use command::Command;
 use limits::FLIGHT;
+use limits::JUMP_COUNTS;
 use limits::NO_REPLY;
 use limits::RALLY;
 use message_table::receive;
@@ -122,6 +123,13 @@ pub fn message(
                 let after = state.plans;
                 state = fresh();
                 state.plans = after;
+            }
+        }
+        Effect::Changes(plan) => {
+            state.plans[k] = plan;
+            if kind == FLIGHT {
+                let none = [0u16; JUMP_COUNTS];
+                state.counts = none;
             }
         }
         Effect::EmptiesAll => {

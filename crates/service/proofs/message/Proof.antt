@@ -4,7 +4,7 @@ use lib.ListN.{length}
 use Rattle.rules.specs.Limits.{kinds}
 use Rattle.rules.specs.Messages.{station}
 use borrow.Author.Needs.{needs}
-use Rattle.service.proofs.Ways.{length-mapped, MessageTaken, message-refused, message-taken, plan-at, message-nothing, message-turns, message-renews, message-restarts, message-empties, message-chooses}
+use Rattle.service.proofs.Ways.{length-mapped, MessageTaken, message-refused, message-taken, plan-at, message-nothing, message-turns, message-renews, message-restarts, message-changes, message-recounts, message-empties, message-chooses}
 use Rattle.service.proofs.message.Statement.{statement}
 use Rattle.service.proofs.message.Tie as tie
 
@@ -88,6 +88,15 @@ element-set-from-plan-2 c = search needs
 fresh-requires : tie.Need-fresh-requires
 fresh-requires c κs = search needs
 
+enum-known-effect-3 : tie.Need-enum-known-effect-3
+enum-known-effect-3 c = search needs
+
+mul-plan-4 : tie.Need-mul-plan-4
+mul-plan-4 c = search needs
+
+element-set-from-plan-3 : tie.Need-element-set-from-plan-3
+element-set-from-plan-3 c = search needs
+
 enum-told-2 : tie.Need-enum-told-2
 enum-told-2 c = search needs
 
@@ -103,8 +112,8 @@ emptied-requires-3 c κs = search needs
 fresh-requires-2 : tie.Need-fresh-requires-2
 fresh-requires-2 c κs = search needs
 
-enum-known-effect-3 : tie.Need-enum-known-effect-3
-enum-known-effect-3 c = search needs
+enum-known-effect-4 : tie.Need-enum-known-effect-4
+enum-known-effect-4 c = search needs
 
 same-length : tie.Need-same-length
 same-length c = search needs
@@ -149,7 +158,7 @@ same-length-10 : tie.Need-same-length-10
 same-length-10 c = search needs
 
 returns-6 : tie.Need-returns-6
-returns-6 c = let t = taken (passed (c .before .before .before .before .before .before)) in search (message-empties, t, needs)
+returns-6 c = let t = taken (passed (c .before .before .before .before)) in let stands = c .before .before .before .before .before .before .before .before .before .before .before .before .before .before .before .place-of .ensures .1 in search (message-recounts, t, stands, needs)
 
 same-length-11 : tie.Need-same-length-11
 same-length-11 c = search needs
@@ -158,7 +167,25 @@ same-length-12 : tie.Need-same-length-12
 same-length-12 c = search needs
 
 returns-7 : tie.Need-returns-7
-returns-7 c = let t = taken (passed (c .before .before .before)) in search (message-chooses, t, needs)
+returns-7 c = let t = taken (passed (c .before .before .before .before)) in let stands = c .before .before .before .before .before .before .before .before .before .before .before .before .before .before .before .place-of .ensures .1 in search (message-changes, t, stands, needs)
+
+same-length-13 : tie.Need-same-length-13
+same-length-13 c = search needs
+
+same-length-14 : tie.Need-same-length-14
+same-length-14 c = search needs
+
+returns-8 : tie.Need-returns-8
+returns-8 c = let t = taken (passed (c .before .before .before .before .before .before)) in search (message-empties, t, needs)
+
+same-length-15 : tie.Need-same-length-15
+same-length-15 c = search needs
+
+same-length-16 : tie.Need-same-length-16
+same-length-16 c = search needs
+
+returns-9 : tie.Need-returns-9
+returns-9 c = let t = taken (passed (c .before .before .before)) in search (message-chooses, t, needs)
 
 pub message-spec : {M : Type 1} → statement M
 message-spec =
@@ -183,12 +210,15 @@ message-spec =
     mul-plan-3
     element-set-from-plan-2
     fresh-requires
+    enum-known-effect-3
+    mul-plan-4
+    element-set-from-plan-3
     enum-told-2
     emptied-requires
     emptied-requires-2
     emptied-requires-3
     fresh-requires-2
-    enum-known-effect-3
+    enum-known-effect-4
     same-length
     same-length-2
     returns-2
@@ -206,4 +236,10 @@ message-spec =
     returns-6
     same-length-11
     same-length-12
-    returns-7)
+    returns-7
+    same-length-13
+    same-length-14
+    returns-8
+    same-length-15
+    same-length-16
+    returns-9)
