@@ -3,4 +3,5 @@ pub mod Part
 pub mod Forms
 pub mod Places
 pub mod Writes
+pub mod Carried
 pub mod Stored

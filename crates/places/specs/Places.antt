@@ -57,6 +57,10 @@ pub offset-next : (F : Form) (half : Bool) (kind n : ℕ) → offsetOf F half ki
 unfolding offsetOf placeOf
 offset-next F half kind n = omega arith
 
+pub offset-upto : (F : Form) (half : Bool) (kind n m : ℕ) → n ≤ m → offsetOf F half kind n ≤ offsetOf F half kind m
+unfolding offsetOf placeOf
+offset-upto F half kind n m upto = mul-le-mul-right (F .width) (omega arith)
+
 module _ (F : Form) (lawful : Lawful F) where
   place-within : (half : Bool) (kind n : ℕ) → kind ≤ rally → n < sizeOf kind → placeOf F half kind n + 1 ≤ 2 * F .places
   unfolding placeOf

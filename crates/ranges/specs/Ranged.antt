@@ -15,12 +15,12 @@ use Rattle.ranges.specs.Ranges.{uploadRanged, planRanged, plansRanged, c
 
 pub record PlanRanges (kind : ℕ) (p : Plan) : Type 0 where
   pub len : p .len ≤ sizeOf kind
-  pub upload : uploadRanged (sizeOf kind) (p .upload) ≡ true
+  pub upload : uploadRanged (sizeOf kind) (p .len) (p .upload) ≡ true
 
 of-plan : (kind : ℕ) (p : Plan) → planRanged (sizeOf kind) p ≡ true → PlanRanges kind p
 unfolding planRanged
 of-plan kind p ranged =
-    let parts = both (leb (p .len) (sizeOf kind)) (uploadRanged (sizeOf kind) (p .upload)) ranged in
+    let parts = both (leb (p .len) (sizeOf kind)) (uploadRanged (sizeOf kind) (p .len) (p .upload)) ranged in
     record { len = leb-true (p .len) (sizeOf kind) (parts .0); upload = parts .1 }
 
 pub plan-ranges : (p q r : Plan) → plansRanged p q r ≡ true → (kind : ℕ) → kind ≤ rally → PlanRanges kind (getD (p ∷ q ∷ r ∷ []) kind emptyPlan)

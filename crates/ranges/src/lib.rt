@@ -1,5 +1,7 @@
 // The ranges of outcome 15, over the numbers of a state.
 ghost use mathlib.Core.Path.{_≡_};
+ghost use Rattle.rules.specs.Model.{taskInRange};
+ghost use Rattle.plan.specs.View.{taskIn};
 ghost use Rattle.ranges.specs.Ranges.{runRanged, uploadRanged, planRanged, countsRanged, allRanged};
 use limits::FENCE;
 use limits::FLIGHT;
@@ -11,18 +13,34 @@ use plan::Plan;
 use plan::Run;
 use plan::Upload;
 
-fn run_ranged(run: Run, size: u16) -> bool
-    ensures { λ r. ⌜ r ≡ runRanged size run ⌝ }
+// The first, last and next number of an upload, beside a plan of `len` items. Of a part the count is that length; a whole one brings every number below its count.
+fn task_ranged(run: Run, len: u16) -> bool
+    ensures { λ r. ⌜ r ≡ taskInRange len (taskIn run) (run .next) ⌝ }
 {
-    (1 <= run.count) & (run.count <= size) & (run.next < run.count) & (run.repeats <= MAX_REPEATS)
+    if run.partial {
+        return (run.count == len)
+            & (run.first <= run.next)
+            & (run.next <= run.last)
+            & (run.last < run.count);
+    }
+    if run.count <= run.next {
+        return false;
+    }
+    (run.first == 0) & (run.last == run.count - 1)
 }
 
-fn upload_ranged(upload: Upload, size: u16) -> bool
-    ensures { λ r. ⌜ r ≡ uploadRanged size upload ⌝ }
+fn run_ranged(run: Run, size: u16, len: u16) -> bool
+    ensures { λ r. ⌜ r ≡ runRanged size len run ⌝ }
+{
+    (1 <= run.count) & (run.count <= size) & task_ranged(run, len) & (run.repeats <= MAX_REPEATS)
+}
+
+fn upload_ranged(upload: Upload, size: u16, len: u16) -> bool
+    ensures { λ r. ⌜ r ≡ uploadRanged size len upload ⌝ }
 {
     match upload {
         Upload::Idle => true,
-        Upload::Running(run) => run_ranged(run, size),
+        Upload::Running(run) => run_ranged(run, size, len),
     }
 }
 
@@ -30,7 +48,7 @@ fn plan_ranged(plan: Plan, size: u16) -> bool
     ensures { λ r. ⌜ r ≡ planRanged size plan ⌝ }
 {
     let upload = plan.upload;
-    (plan.len <= size) & upload_ranged(upload, size)
+    (plan.len <= size) & upload_ranged(upload, size, plan.len)
 }
 
 // All are looked at: a loop that does not leave early is one that the compiler makes wide.

@@ -52,8 +52,8 @@ ranged-kind m e kind known =
     let place = ltb (m .shown .current) (lengthOf (m .shown) flight) || eqb (m .shown .current) 0 in
     let runs = every (λ (n : ℕ). leb n maxRuns) (m .shown .counts) in
     let parts =
-        both (leb (lengthOf (m .shown) kind) (sizeOf kind)) (uploadInRange kind (lengthOf (m .shown) kind) (uploadOf m kind))
-        (ranged-three m (both plans place (both (plans && place) runs e .0) .0) kind known) in
+    both (leb (lengthOf (m .shown) kind) (sizeOf kind)) (uploadInRange kind (lengthOf (m .shown) kind) (uploadOf m kind))
+    (ranged-three m (both plans place (both (plans && place) runs e .0) .0) kind known) in
     record { most = leb-true (lengthOf (m .shown) kind) (sizeOf kind) (parts .0); upload = parts .1 }
 
 -- the kinds that an allowed clear covers are known

@@ -1,14 +1,17 @@
-// An item in the store: kept as its eight words at its place, and fetched from there as a struct. Its number and its kind are those of the place.
+// An item in the store: kept as its eight words at its place, fetched from there as a struct, and carried from one half to the other as it stands. Its number and its
+// kind are those of the place.
 ghost use mathlib.Core.Path.{_≡_};
 ghost use mathlib.Core.List.{[], _∷_};
-ghost use Prim.Native.Nat.{_≤_, _<_};
+ghost use Prim.Native.Nat.{_+_, _-_, _≤_, _<_};
 ghost use lib.ListN.{length};
 ghost use Rattle.rules.specs.Limits.{rally, sizeOf, itemWords, storeWords};
 ghost use Rattle.rules.specs.Messages.{itemIn};
 ghost use Rattle.rules.specs.Words.{wordsOf, itemOfWords, lastWordOf};
 ghost use Rattle.item.specs.Patterns.{itemFor, patterns};
+ghost use Rattle.places.specs.Part.{part};
 ghost use Rattle.places.specs.Forms.{words, itemAt};
 ghost use Rattle.places.specs.Writes.{putAt};
+ghost use Rattle.places.specs.Carried.{carriedAt, carried};
 ghost use Rattle.storage.specs.Kept.{atPlace};
 use item::Item;
 use limits::AUTOCONTINUE_UNIT;
@@ -103,4 +106,39 @@ pub fn keep(store: &mut [u32], kind: u8, half: bool, n: u16, item: Item)
         last,
     ];
     put_item(store, place_at(kind, half, n), kept);
+}
+
+// The eight words from `at`.
+fn words_at(store: &[u32], at: usize) -> [u32; ITEM_WORDS]
+    requires { ⌜ at + itemWords ≤ length (now store) ⌝ }
+    ensures { λ r. ⌜ r ≡ part (now (store .entry)) at itemWords ⌝ }
+{
+    let mut item = [0u32; ITEM_WORDS];
+    let mut i: usize = 0;
+    while i < ITEM_WORDS {
+        item[i] = store[at + i];
+        i += 1;
+    }
+    item
+}
+
+// The item with a number goes, as it stands in a half, to its place in the other half.
+fn carry(store: &mut [u32], kind: u8, half: bool, n: u16)
+    requires { ⌜ (storeWords ≤ length (now store)) × (kind ≤ rally) × (n < sizeOf kind) ⌝ }
+    ensures { λ _. ⌜ now (store .exit) ≡ carriedAt words (now (store .entry)) half kind n ⌝ }
+{
+    let item = words_at(store, place_at(kind, half, n));
+    put_item(store, place_at(kind, !half, n), item);
+}
+
+// The items from number `low` on and below `high` do.
+pub fn carry_items(store: &mut [u32], kind: u8, half: bool, low: u16, high: u16)
+    requires { ⌜ (storeWords ≤ length (now store)) × (kind ≤ rally) × (low ≤ high) × (high ≤ sizeOf kind) ⌝ }
+    ensures { λ _. ⌜ now (store .exit) ≡ carried words (now (store .entry)) half kind low (high - low) ⌝ }
+{
+    let mut i = low;
+    while i < high {
+        carry(store, kind, half, i);
+        i += 1;
+    }
 }

@@ -18,7 +18,7 @@ returns : tie.Need-returns
 returns c = search needs
 
 returns-2 : tie.Need-returns-2
-returns-2 c = c .run-ranged .ensures ∙ ap (uploadRanged _) (sym (c .before .before .upload .given .1))
+returns-2 c = c .run-ranged .ensures ∙ ap (uploadRanged _ _) (sym (c .before .before .upload .given .1))
 
 pub upload-ranged-spec : {M : Type 1} → statement M
 upload-ranged-spec =
