@@ -1,21 +1,23 @@
 -- What each message and timer call makes of one kind's plan, over the state's own records; of the store in every form.
 use Prim.Native.Nat.{ℕ, _+_}
 use mathlib.Core.Bool.{Bool, false, not, cond, _&&_}
+use lib.ListN.{drop}
 use lib.Dec.{eqb, ltb}
-use Rattle.rules.specs.Limits.{maxRepeats, expiryMs, accepted, noSpace, invalid, invalidSequence, denied, cancelled}
+use Rattle.rules.specs.Limits.{maxRepeats, expiryMs, accepted, noSpace, invalidSequence, denied, cancelled}
 use Rattle.rules.specs.Messages.{Station, station, sameStation, Item}
-use Rattle.rules.specs.Items.{jumpsAmong, fault}
-use Rattle.rules.specs.Model.{nextNumber, elapsed, wholeOk}
+use Rattle.rules.specs.Model.{Task, wholeTask, partTask, nextNumber, elapsed, verdictOn, wholeFault}
+use Rattle.rules.specs.Step.{partOk}
 use Rattle.plan.specs.declared.Plan.{Plan}
 use Rattle.plan.specs.declared.Run.{Run}
 use Rattle.plan.specs.declared.Upload.{Upload}
 use Rattle.plan.specs.declared.Upload.the-variants.{Idle, Running}
 use Rattle.places.specs.Forms.{Store, Form, itemsIn}
 use Rattle.places.specs.Writes.{putAt}
-use Rattle.plan.specs.View.{stationIn}
+use Rattle.places.specs.Carried.{filled}
+use Rattle.plan.specs.View.{stationIn, taskIn}
 use Rattle.upload.specs.declared.Say.{Say}
 use Rattle.upload.specs.declared.Say.the-variants.{Silent, Ack, Ask}
-use Rattle.upload.specs.declared.Effect.the-variants.{Nothing, Turns, Renews}
+use Rattle.upload.specs.declared.Effect.the-variants.{Nothing, Turns, Renews, Changes}
 use Rattle.upload.specs.declared.Turned.{Turned}
 
 -- ---- one definition for each update of a plan
@@ -33,14 +35,18 @@ emptied p = record { len = 0; half = p .half; number = p .number; upload = Idle 
 abbrev pub replaced : Plan → ℕ → Plan
 replaced p n = record { len = n; half = not (p .half); number = nextNumber (p .number); upload = Idle }
 
-abbrev pub started : Station → (now n : ℕ) → Run
-started from now n = record { system = from .system; component = from .component; count = n; next = 0; started = now; repeats = 0 }
+abbrev pub runOf : (system component : ℕ) → Task → (next now repeats : ℕ) → Run
+runOf system component t next now repeats =
+    record { system = system; component = component; count = t .count; partial = t .partial; first = t .first; last = t .last; next = next; started = now; repeats = repeats }
+
+abbrev pub started : Station → (now : ℕ) → Task → Run
+started from now t = runOf (from .system) (from .component) t (t .first) now 0
 
 abbrev pub oneMore : Run → (now : ℕ) → Run
-oneMore r now = record { system = r .system; component = r .component; count = r .count; next = r .next + 1; started = now; repeats = 0 }
+oneMore r now = runOf (r .system) (r .component) (taskIn r) (r .next + 1) now 0
 
 abbrev pub askedAgain : Run → (now : ℕ) → Run
-askedAgain r now = record { system = r .system; component = r .component; count = r .count; next = r .next; started = now; repeats = r .repeats + 1 }
+askedAgain r now = runOf (r .system) (r .component) (taskIn r) (r .next) now (r .repeats + 1)
 
 -- ---- whose an upload is
 
@@ -68,12 +74,26 @@ moves p say = record { effect = Turns p; say = say }
 abbrev pub renews : Plan → Say → Turned
 renews p say = record { effect = Renews p; say = say }
 
+-- a plan put in, all of it or with a part changed
+abbrev pub putsIn : (partial : Bool) → Plan → Say → Turned
+putsIn partial p say = record { effect = cond partial (Changes p) (Renews p); say = say }
+
+-- an upload starts, and its first item is asked for
+abbrev pub opens : Plan → Station → (now : ℕ) → Task → Turned
+opens p from now t = moves (withUpload p (Running (started from now t))) (Ask (t .first))
+
 unfoldable pub countTurned : Plan → Station → (now n size : ℕ) → Turned
 countTurned p from now n size =
     cond (othersUpload from (p .upload)) (keeps (Ack denied 0))
     (cond (ltb size n) (moves (ended p) (Ack noSpace 0))
     (cond (eqb n 0) (renews (emptied p) (Ack accepted 0))
-    (moves (withUpload p (Running (started from now n))) (Ask 0))))
+    (opens p from now (wholeTask n))))
+
+unfoldable pub partTurned : Plan → Station → (now start end : ℕ) → Turned
+partTurned p from now start end =
+    cond (othersUpload from (p .upload)) (keeps (Ack denied 0))
+    (cond (not (partOk (p .len) start end)) (moves (ended p) (Ack invalidSequence 0))
+    (opens p from now (partTask (p .len) start end)))
 
 unfoldable pub ackTurned : Plan → Station → (result : ℕ) → Turned
 ackTurned p from result = cond (ownUpload from (p .upload) && not (eqb result accepted)) (moves (ended p) Silent) (keeps Silent)
@@ -99,14 +119,23 @@ module _ (F : Form) where
   abbrev pub stored : Store → (kind : ℕ) → Plan → Run → Item → Store
   stored s kind p r item = putAt F s (not (p .half)) kind (r .next) (F .keeps item)
 
+  -- the store after the upload's last item: to a part the plan's other items are put
+  unfoldable pub settled : Store → (kind : ℕ) → Plan → Run → Store
+  settled s kind p r = cond (r .partial) (filled F s (p .half) kind (taskIn r)) s
+
+  -- what would be put in stands in the other half
+  unfoldable pub lastTurned : Store → (kind : ℕ) → Plan → Run → Turned
+  lastTurned s kind p r =
+      let result = wholeFault kind (taskIn r) (itemsIn F s (not (p .half)) kind (r .count)) in
+      cond (eqb result accepted) (putsIn (r .partial) (replaced p (r .count)) (Ack accepted (nextNumber (p .number)))) (moves (ended p) (Ack result 0))
+
   unfoldable pub validItemTurned : Store → (kind : ℕ) → Plan → Run → (now : ℕ) → TurnAndStore
   validItemTurned s kind p r now =
-      cond (not (eqb (r .next + 1) (r .count))) (turnWith (moves (withUpload p (Running (oneMore r now))) (Ask (r .next + 1))) s)
-      (cond (wholeOk kind (itemsIn F s (not (p .half)) kind (r .count))) (turnWith (renews (replaced p (r .count)) (Ack accepted (nextNumber (p .number)))) s)
-      (turnWith (moves (ended p) (Ack invalid 0)) s))
+      cond (not (eqb (r .next) (r .last))) (turnWith (moves (withUpload p (Running (oneMore r now))) (Ask (r .next + 1))) s)
+      (turnWith (lastTurned (settled s kind p r) kind p r) (settled s kind p r))
 
   abbrev pub itemVerdict : Store → (kind : ℕ) → Plan → Run → Item → ℕ
-  itemVerdict s kind p r item = fault kind (r .count) (r .next) (jumpsAmong (itemsIn F s (not (p .half)) kind (r .next))) item
+  itemVerdict s kind p r item = verdictOn kind (taskIn r) (r .next) (drop (r .first) (itemsIn F s (not (p .half)) kind (r .next))) item
 
   unfoldable pub itemTurned : Store → (kind : ℕ) → Upload → Plan → Station → (now : ℕ) → Item → TurnAndStore
   itemTurned s kind Idle p from now item = turnWith (keeps (Ack invalidSequence 0)) s

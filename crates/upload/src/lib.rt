@@ -20,6 +20,8 @@ pub enum Effect {
     Turns(Plan),
     // The plan of the kind is replaced or emptied.
     Renews(Plan),
+    // A part of its items is replaced.
+    Changes(Plan),
     // The plan of every kind is emptied.
     EmptiesAll,
     // An item of the flight plan becomes current.

@@ -1,6 +1,6 @@
 // One function for each update of a plan, and for each answer of a handler.
 ghost use mathlib.Core.Path.{_≡_};
-ghost use Rattle.upload.specs.Turns.{withUpload, ended, emptied, replaced, keeps, moves, renews};
+ghost use Rattle.upload.specs.Turns.{withUpload, ended, emptied, replaced, keeps, moves, renews, putsIn};
 use super::Effect;
 use super::Say;
 use super::Turned;
@@ -79,4 +79,17 @@ pub fn renews(plan: Plan, say: Say) -> Turned
         effect: Effect::Renews(plan),
         say,
     }
+}
+
+// The answer with a plan that was put in: all of it, or with a part changed.
+pub fn puts_in(partial: bool, plan: Plan, say: Say) -> Turned
+    ensures { λ r. ⌜ r ≡ putsIn partial plan say ⌝ }
+{
+    if partial {
+        return Turned {
+            effect: Effect::Changes(plan),
+            say,
+        };
+    }
+    renews(plan, say)
 }

@@ -2,14 +2,14 @@
 use mathlib.Core.Path.{_≡_}
 use mathlib.Core.Bool.{Bool, true, false}
 use Rattle.rules.specs.Messages.{Station}
+use Rattle.rules.specs.Model.{wholeTask}
 use Rattle.plan.specs.declared.Plan.{Plan}
-use Rattle.plan.specs.declared.Upload.the-variants.{Running}
 use borrow.Author.Tests.{lt-ltb, le-ltb, eq-eqb, ne-eqb}
-use Rattle.upload.specs.declared.Say.the-variants.{Ack, Ask}
+use Rattle.upload.specs.declared.Say.the-variants.{Ack}
 use Rattle.upload.specs.declared.Turned.{Turned}
 use Prim.Native.Nat.{ℕ, _<_, _≤_}
 use Rattle.rules.specs.Limits.{accepted, noSpace, denied}
-use Rattle.upload.specs.Turns.{othersUpload, ended, withUpload, emptied, started, keeps, moves, renews, countTurned}
+use Rattle.upload.specs.Turns.{othersUpload, ended, emptied, keeps, moves, renews, opens, countTurned}
 use borrow.Author.Needs.{needs}
 use Rattle.upload.proofs.turns.on_count.Statement.{statement}
 use Rattle.upload.proofs.turns.on_count.Tie as tie
@@ -27,10 +27,9 @@ module _ (p : Plan) (from : Station) (now n size : ℕ) (b : Bool) (is : b ≡ o
   unfolding countTurned
   empties q t e fits none eq et = simp (← is, e, le-ltb size n fits, eq-eqb n 0 none, et, eq)
 
-  starts : (q : Plan) (t : Turned) → b ≡ false → n ≤ size → (n ≡ 0 → ⊥) → q ≡ withUpload p (Running (started from now n)) → t ≡ moves q (Ask 0)
-      → t ≡ countTurned p from now n size
+  starts : (t : Turned) → b ≡ false → n ≤ size → (n ≡ 0 → ⊥) → t ≡ opens p from now (wholeTask n) → t ≡ countTurned p from now n size
   unfolding countTurned
-  starts q t e fits some eq et = simp (← is, e, le-ltb size n fits, ne-eqb n 0 some, et, eq)
+  starts t e fits some et = simp (← is, e, le-ltb size n fits, ne-eqb n 0 some, et)
 
 others-upload-requires : tie.Need-others-upload-requires
 others-upload-requires c κs = search needs
@@ -59,11 +58,11 @@ renews-requires c κs = search needs
 returns-3 : tie.Need-returns-3
 returns-3 c = search (empties, needs)
 
-with-upload-requires : tie.Need-with-upload-requires
-with-upload-requires c κs = search needs
+sub-t16 : tie.Need-sub-t16
+sub-t16 c = search needs
 
-moves-requires-2 : tie.Need-moves-requires-2
-moves-requires-2 c κs = search needs
+opened-requires : tie.Need-opened-requires
+opened-requires c κs = search needs
 
 returns-4 : tie.Need-returns-4
 returns-4 c = search (starts, needs)
@@ -81,6 +80,6 @@ on-count-spec =
     emptied-requires
     renews-requires
     returns-3
-    with-upload-requires
-    moves-requires-2
+    sub-t16
+    opened-requires
     returns-4)
