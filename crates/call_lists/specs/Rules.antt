@@ -1,50 +1,56 @@
 -- Demand 3 over the rules alone: what every list of calls from a fresh start makes of the model.
-use Prim.Native.Nat.{ℕ, _+_, _≤_}
+use Prim.Native.Nat.{ℕ, _≤_, _<_}
 use native.Mathlib.Omega.{arith}
 use mathlib.Core.Path.{_≡_, refl, sym, ap, subst, _∙_}
 use mathlib.Core.List.{List, [], _∷_, _++_}
 use mathlib.Core.Bool.{Bool, true, false, true≢false, not, cond, _&&_}
 use lib.ListN.{length}
 use lib.Dec.{eqb, ltb}
-use borrow.Author.Tests.{eqb-true, eq-eqb, ne-eqb, leb-true, le-leb, ltb-true, le-ltb, not-false}
-use Rattle.rules.specs.Limits.{flight, rally, kinds, everyKind, sizeOf, accepted, denied, outOfRange, storeWords, replyBytesMin, maxRepeats, expiryMs}
+use borrow.Author.Tests.{eqb-true, eq-eqb, ne-eqb, leb-true, le-leb, ltb-true, le-ltb, lt-ltb, not-false}
+use Rattle.rules.specs.Limits.{flight, rally, kinds, everyKind, sizeOf, halfShort, accepted, denied, outOfRange, storeWords, replyBytesMin, maxRepeats, expiryMs}
 use Rattle.rules.specs.Payload.{Bytes}
-use Rattle.rules.specs.Messages.{Station, sameStation, Item, Message, setCurrent, current, requestList, count, clearAll, ack, requestInt, itemInt, statustext, unknown, decode, itemOf}
-use Rattle.rules.specs.Items.{jumpsAmong, fault}
-use Rattle.rules.specs.Model.{Run, Upload, idle, running, Shown, Model, uploadOf, lengthOf, fresh, elapsed, expected, isLast, whole, wholeOk, isOthers, isOwn, put, empty}
-use Rattle.rules.specs.Calls.{Call, message, timer, done, oursOrAll, forUs, heardMessage, heard, Request, chooses, asksList, announces, clears, acknowledges, asksItem, brings, Heard, refuses, request, expiry, commandDone, isKnown}
-use Rattle.rules.specs.Step.{Answer, refused, silent, says, orders, isRefused, Stepped, onCount, onValidItem, onItem, onAck, onClear, anyOthers, covered, onList, onRequest, onSetCurrent, onKnown, kindOk, onMessage, onTimer, act, run}
+use Rattle.rules.specs.Messages.{Station, sameStation, Item, Message, partialList, setCurrent, current, requestList, count, clearAll, ack, requestInt, itemInt, statustext, unknown, decode, itemOf}
+use Rattle.rules.specs.Model.{Run, Upload, idle, running, Shown, Model, uploadOf, lengthOf, fresh, elapsed, Task, planOf, expected, isLast, verdictOn, whole, wholeFault, isOthers, isOwn, put, empty}
+use Rattle.rules.specs.Calls.{Call, message, timer, done, oursOrAll, forUs, heardMessage, heard, Request, chooses, asksList, announces, changes, clears, acknowledges, asksItem, brings, Heard, refuses, request, expiry, commandDone, isKnown}
+use Rattle.rules.specs.Step.{Answer, refused, silent, says, orders, isRefused, Stepped, onCount, partOk, onPartial, onValidItem, onItem, onAck, onClear, anyOthers, covered, onList, onRequest, onSetCurrent, onKnown, kindOk, onMessage, onTimer, act, run}
 use Rattle.rule_laws.specs.Tests.{either}
 use Rattle.rule_laws.specs.Refused.{message-answered, timer-answered}
-use Rattle.call_lists.specs.Uploads.{shownBy, answerTo, hears, letIn, Open, Completes, Empties, byCount, byClear, byClearAll, Stroke, uploaded, emptied, chosen, movedOn, nothing}
+use Rattle.call_lists.specs.Uploads.{shownBy, answerTo, hears, letIn, Starts, Open, Alone, Completes, Empties, byCount, byClear, byClearAll, Stroke, uploaded, emptied, chosen, movedOn, nothing}
 use Rattle.call_lists.specs.Laws.Lists.{run-snoc, same-self, same-station}
-use Rattle.call_lists.specs.Laws.Turns.{no, or-left, runOf}
-use Rattle.call_lists.specs.Tracks.{one-more, open-runs, runs-open}
+use Rattle.call_lists.specs.Laws.Turns.{no, or-left, start-denied}
+use Rattle.rule_laws.specs.Kinds.{size-small}
+use Rattle.call_lists.specs.Laws.Kept.{formed}
+use Rattle.call_lists.specs.Tracks.{one-more, toldRun, in-turn, open-runs, runs-open}
 
 -- what is shown after one more call
 shown-after : (pre : List Call) (c : Call) → shownBy (pre ++ (c ∷ [])) ≡ act (run fresh pre) (hears c) .model .shown
 shown-after pre c = ap (λ (m : Model). m .shown) (run-snoc fresh pre c) ∙ ap (λ (s : Stepped). s .model .shown) (one-more pre c)
 
+-- the answer to one more call
+pub answer-heard : (pre : List Call) (c : Call) (h : Heard) → hears c ≡ h → answerTo pre c ≡ act (run fresh pre) h .answer
+answer-heard pre c h e = ap (λ (s : Stepped). s .answer) (one-more pre c) ∙ ap (λ (g : Heard). act (run fresh pre) g .answer) e
+
 -- ---- a completed upload takes effect
 
 completes-model :
     (m : Model) (k : ℕ) (r : Run) → isKnown k ≡ true → uploadOf m k ≡ running r → (now : ℕ) (item : Item) → item .seq ≡ expected r
-    → fault k (r .count) (expected r) (jumpsAmong (r .taken)) item ≡ accepted → expected r + 1 ≡ r .count → wholeOk k (whole r (itemOf item)) ≡ true
-    → act m (request (r .station) now k (brings item)) .model .shown ≡ put k (whole r (itemOf item)) (m .shown)
+    → verdictOn k (r .task) (expected r) (r .taken) item ≡ accepted → expected r ≡ r .task .last
+    → wholeFault k (r .task) (whole (r .task) (planOf (m .shown) k .items) (r .taken ++ (itemOf item ∷ []))) ≡ accepted
+    → act m (request (r .station) now k (brings item)) .model .shown ≡ put (r .task .partial) k (whole (r .task) (planOf (m .shown) k .items) (r .taken ++ (itemOf item ∷ []))) (m .shown)
 unfolding act onMessage onKnown kindOk onItem onValidItem
 completes-model m k r known runs now item turn valid last ok =
-    rw (known, runs, same-self (r .station), eq-eqb (item .seq) (expected r) turn, valid, eq-eqb (expected r + 1) (r .count) last, ok)
+    rw (known, runs, same-self (r .station), eq-eqb (item .seq) (expected r) turn, valid, eq-eqb (expected r) (r .task .last) last, ok)
 
 pub takes-effect :
-    (pre : List Call) (c : Call) (k : ℕ) (items : List Bytes) → Completes pre c k items → shownBy (pre ++ (c ∷ [])) ≡ put k items (shownBy pre)
+    (pre : List Call) (c : Call) (k : ℕ) (items : List Bytes) (d : Completes pre c k items) → shownBy (pre ++ (c ∷ [])) ≡ put (d .task .partial) k items (shownBy pre)
 takes-effect pre c k items completed =
-    let r = runOf (completed .o) (completed .n) (completed .got) (completed .started) (completed .repeats) in
+    let r = toldRun (completed .o) (completed .task) (completed .got) (completed .started) (completed .repeats) in
     let was = open-runs (completed .upload) in
-    let ok : wholeOk k (whole r (itemOf (completed .item))) ≡ true = subst (λ (l : List Bytes). wholeOk k l ≡ true) (completed .all) (completed .passes) in
+    let ok = subst (λ (l : List Bytes). wholeFault k (completed .task) l ≡ accepted) (completed .all) (completed .passes) in
     shown-after pre c
     ∙ ap (λ (h : Heard). act (run fresh pre) h .model .shown) (completed .sent)
     ∙ completes-model (run fresh pre) k r (was .known) (was .upload) (completed .now) (completed .item) (completed .inTurn) (completed .valid) (completed .last) ok
-    ∙ ap (λ (l : List Bytes). put k l (shownBy pre)) (sym (completed .all))
+    ∙ ap (λ (l : List Bytes). put (completed .task .partial) k l (shownBy pre)) (sym (completed .all))
 
 -- ---- an empty upload at its count, an allowed clear
 
@@ -120,17 +126,25 @@ module _ (pre : List Call) (c : Call) where
         cleared in-it false t =
             rw t (emptied (k ∷ []) (byClear k o now sent (leb-true k rally (or-left (isKnown k) (eqb k everyKind) t ok)) in-it))
 
+    part-way : (start end : ℕ) → Way (onPartial m o now k start end)
+    unfolding onPartial
+    part-way start end =
+        either Way (isOthers o (uploadOf m k)) (λ t w. nothing) (λ t. either Way (not (partOk (lengthOf (m .shown) k) start end)) (λ t w. nothing) (λ t w. nothing))
+
     valid-way :
         (known : isKnown k ≡ true) (r : Run) (item : Item) → uploadOf m k ≡ running r → o ≡ r .station → hears c ≡ request o now k (brings item) → item .seq ≡ expected r
-        → fault k (r .count) (expected r) (jumpsAmong (r .taken)) item ≡ accepted → Way (onValidItem m o now k r (itemOf item))
+        → verdictOn k (r .task) (expected r) (r .taken) item ≡ accepted → Way (onValidItem m o now k r (itemOf item))
     unfolding onValidItem
     valid-way known r item runs own sent turn valid =
+        let items = whole (r .task) (planOf (m .shown) k .items) (r .taken ++ (itemOf item ∷ [])) in
+        let verdict = wholeFault k (r .task) items in
+        let e = in-turn k known pre r runs in
         either Way (not (isLast r)) (λ t w. nothing)
-        (λ last. either Way (wholeOk k (whole r (itemOf item)))
-        (λ ok w. uploaded k (whole r (itemOf item))
+        (λ last. either Way (eqb verdict accepted)
+        (λ ok w. uploaded k items
         (record {
           o = r .station;
-          n = r .count;
+          task = r .task;
           got = r .taken;
           started = r .started;
           repeats = r .repeats;
@@ -138,10 +152,10 @@ module _ (pre : List Call) (c : Call) where
           item = item;
           upload = runs-open k known pre r runs;
           sent = sent ∙ ap (λ (s : Station). request s now k (brings item)) own;
-          inTurn = turn;
-          valid = valid;
-          last = eqb-true (expected r + 1) (r .count) (not-false (isLast r) last);
-          passes = ok;
+          inTurn = turn ∙ e;
+          valid = subst (λ (i : ℕ). verdictOn k (r .task) i (r .taken) item ≡ accepted) e valid;
+          last = sym e ∙ eqb-true (expected r) (r .task .last) (not-false (isLast r) last);
+          passes = eqb-true verdict accepted ok;
           all = refl;
         }))
         (λ t w. nothing))
@@ -150,7 +164,7 @@ module _ (pre : List Call) (c : Call) where
     unfolding onItem
     item-way known idle runs item sent = λ w. nothing
     item-way known (running r) runs item sent =
-        let verdict = fault k (r .count) (expected r) (jumpsAmong (r .taken)) item in
+        let verdict = verdictOn k (r .task) (expected r) (r .taken) item in
         either Way (not (sameStation o (r .station))) (λ t w. nothing)
         (λ own. either Way (not (eqb (item .seq) (expected r))) (λ t w. nothing)
         (λ turn. either Way (not (eqb verdict accepted)) (λ t w. nothing)
@@ -163,6 +177,7 @@ module _ (pre : List Call) (c : Call) where
         either Way (ltb seq (lengthOf (m .shown) flight)) (λ below w. chosen o now k seq sent (ltb-true seq (lengthOf (m .shown) flight) below)) (λ t w. nothing)
     known-way asksList sent ok = λ w. nothing
     known-way (announces n) sent ok = count-way n sent
+    known-way (changes start end) sent ok = part-way start end
     known-way clears sent ok = clear-way sent ok
     known-way (acknowledges result) sent ok = either Way (isOwn o (uploadOf m k) && not (eqb result accepted)) (λ t w. nothing) (λ t w. nothing)
     known-way (asksItem seq) sent ok = either Way (ltb seq (lengthOf (m .shown) k)) (λ t w. nothing) (λ t w. nothing)
@@ -208,6 +223,7 @@ module _ (own from : Station) (now : ℕ) where
   message-within (setCurrent to seq) = for-us-within to flight (chooses seq)
   message-within (requestList to kind) = for-us-within to kind asksList
   message-within (count to n kind planNumber) = for-us-within to kind (announces n)
+  message-within (partialList to start end kind) = for-us-within to kind (changes start end)
   message-within (clearAll to kind) = for-us-within to kind clears
   message-within (ack to result kind planNumber) = for-us-within to kind (acknowledges result)
   message-within (requestInt to seq kind) = for-us-within to kind (asksItem seq)
@@ -252,7 +268,7 @@ never-out-of-range pre c e =
     true≢false
     (subst AnswerWithin (sym (ap (λ (s : Stepped). s .answer) (one-more pre c)) ∙ e) (act-within (run fresh pre) (hears c) (hears-within c)))
 
--- ---- a fitting COUNT is let in unless another station's upload of the kind is open, and is denied then
+-- ---- a fitting COUNT or 38 is let in unless another station's upload of the kind is open, and is denied then
 
 count-let-in :
     (m : Model) (o : Station) (now k n : ℕ) → isKnown k ≡ true → n ≤ sizeOf k → isOthers o (uploadOf m k) ≡ false
@@ -261,25 +277,43 @@ unfolding act onMessage onKnown kindOk onCount
 count-let-in m o now k n known fits mine =
     rw (known, mine, le-ltb (sizeOf k) n fits) (either (λ (s : Stepped). letIn (s .answer) ≡ true) (eqb n 0) (λ t. refl) (λ t. refl))
 
-pub lets-in :
-    (pre : List Call) (c : Call) (k : ℕ) (o : Station) (now n : ℕ) → hears c ≡ request o now k (announces n) → k ≤ rally → n ≤ sizeOf k
-    → ((o′ : Station) (n′ : ℕ) (got : List Bytes) (started repeats : ℕ) → Open k o′ n′ pre got started repeats → o′ ≡ o)
-    → letIn (answerTo pre c) ≡ true
+alone-mine : (k : ℕ) (o : Station) (pre : List Call) → isKnown k ≡ true → Alone k o pre → isOthers o (uploadOf (run fresh pre) k) ≡ false
 unfolding isOthers
-lets-in pre c k o now n sent small fits alone =
-    ap (λ (s : Stepped). letIn (s .answer)) (one-more pre c)
-    ∙ ap (λ (h : Heard). letIn (act (run fresh pre) h .answer)) sent
-    ∙ count-let-in (run fresh pre) o now k n (le-leb k rally small) fits (mine (uploadOf (run fresh pre) k) refl)
+alone-mine k o pre known alone = mine (uploadOf (run fresh pre) k) refl
   where
     mine : (u : Upload) → uploadOf (run fresh pre) k ≡ u → isOthers o (uploadOf (run fresh pre) k) ≡ false
     mine idle e = rw e
     mine (running r) e =
-        let own : r .station ≡ o = alone (r .station) (r .count) (r .taken) (r .started) (r .repeats) (runs-open k (le-leb k rally small) pre r e) in
+        let own : r .station ≡ o = alone (r .station) (r .task) (r .taken) (r .started) (r .repeats) (runs-open k known pre r e) in
         rw (e, own, same-self o)
+
+pub lets-in :
+    (pre : List Call) (c : Call) (k : ℕ) (o : Station) (now n : ℕ) → hears c ≡ request o now k (announces n) → k ≤ rally → n ≤ sizeOf k → Alone k o pre
+    → letIn (answerTo pre c) ≡ true
+lets-in pre c k o now n sent small fits alone =
+    ap letIn (answer-heard pre c (request o now k (announces n)) sent)
+    ∙ count-let-in (run fresh pre) o now k n (le-leb k rally small) fits (alone-mine k o pre (le-leb k rally small) alone)
+
+-- (M-108) "After COUNT's rule on running uploads, needs 0 <= start <= end < length"
+part-let-in :
+    (m : Model) (o : Station) (now k start end : ℕ) → isKnown k ≡ true → lengthOf (m .shown) k ≤ sizeOf k → start ≤ end → end < lengthOf (m .shown) k
+    → isOthers o (uploadOf m k) ≡ false → letIn (act m (request o now k (changes start end)) .answer) ≡ true
+unfolding act onMessage onKnown kindOk onPartial partOk
+part-let-in m o now k start end known most order below mine =
+    let small = size-small k in
+    rw (known, mine, lt-ltb start halfShort (omega arith), lt-ltb end halfShort (omega arith), le-leb start end order, lt-ltb end (lengthOf (m .shown) k) below)
+
+pub lets-part-in :
+    (pre : List Call) (c : Call) (k : ℕ) (o : Station) (now start end : ℕ) → hears c ≡ request o now k (changes start end) → k ≤ rally → start ≤ end
+    → end < lengthOf (shownBy pre) k → Alone k o pre → letIn (answerTo pre c) ≡ true
+lets-part-in pre c k o now start end sent small order below alone =
+    let known = le-leb k rally small in
+    ap letIn (answer-heard pre c (request o now k (changes start end)) sent)
+    ∙ part-let-in (run fresh pre) o now k start end known (formed pre .plan k known) order below (alone-mine k o pre known alone)
 
 -- another station than the one whose upload is open
 pub others-open :
-    {k : ℕ} {o : Station} {n : ℕ} {pre : List Call} {got : List Bytes} {started repeats : ℕ} (o′ : Station) → Open k o n pre got started repeats → (o′ ≡ o → ⊥)
+    {k : ℕ} {o : Station} {t : Task} {pre : List Call} {got : List Bytes} {started repeats : ℕ} (o′ : Station) → Open k o t pre got started repeats → (o′ ≡ o → ⊥)
     → isOthers o′ (uploadOf (run fresh pre) k) ≡ true
 unfolding isOthers
 others-open {o = o} o′ up other = rw (open-runs up .upload) (apart (sameStation o′ o) refl)
@@ -288,16 +322,10 @@ others-open {o = o} o′ up other = rw (open-runs up .upload) (apart (sameStatio
     apart true t = absurd (other (same-station o′ o t))
     apart false t = rw t
 
-pub count-denied :
-    (m : Model) (o : Station) (now k n : ℕ) → isKnown k ≡ true → isOthers o (uploadOf m k) ≡ true
-    → act m (request o now k (announces n)) ≡ record { model = m; answer = says (ack o denied k 0) }
-unfolding act onMessage onKnown kindOk onCount
-count-denied m o now k n known others = rw (known, others)
-
+-- a COUNT or a 38 of another station is denied
 pub denies :
-    (pre : List Call) (c : Call) (k : ℕ) (o o′ : Station) (n n′ : ℕ) (got : List Bytes) (started repeats now : ℕ) → Open k o n pre got started repeats → (o′ ≡ o → ⊥)
-    → hears c ≡ request o′ now k (announces n′) → answerTo pre c ≡ says (ack o′ denied k 0)
-denies pre c k o o′ n n′ got started repeats now up other sent =
-    ap (λ (s : Stepped). s .answer) (one-more pre c)
-    ∙ ap (λ (h : Heard). act (run fresh pre) h .answer) sent
-    ∙ ap (λ (s : Stepped). s .answer) (count-denied (run fresh pre) o′ now k n′ (open-runs up .known) (others-open o′ up other))
+    (pre : List Call) (c : Call) (k : ℕ) (o o′ : Station) (t : Task) (q : Request) (got : List Bytes) (started repeats now : ℕ) → Open k o t pre got started repeats
+    → (o′ ≡ o → ⊥) → Starts q → hears c ≡ request o′ now k q → answerTo pre c ≡ says (ack o′ denied k 0)
+denies pre c k o o′ t q got started repeats now up other starts sent =
+    answer-heard pre c (request o′ now k q) sent
+    ∙ ap (λ (s : Stepped). s .answer) (start-denied (run fresh pre) o′ now k q starts (open-runs up .known) (others-open o′ up other))

@@ -9,7 +9,7 @@ use lib.Dec.{eqb}
 use Rattle.rules.specs.Limits.{flight, fence, rally, everyKind, sizeOf, accepted, unsupported, denied}
 use Rattle.rules.specs.Payload.{Bytes}
 use Rattle.rules.specs.Messages.{Station, ack}
-use Rattle.rules.specs.Calls.{Request, chooses, asksList, announces, clears, acknowledges, asksItem, brings}
+use Rattle.rules.specs.Calls.{Request, chooses, asksList, announces, changes, clears, acknowledges, asksItem, brings}
 use Rattle.rules.specs.Step.{Answer, silent, says, covered, kindOk}
 use Rattle.places.specs.Forms.{Store, Form}
 use Rattle.plan.specs.declared.Plan.{Plan}
@@ -17,7 +17,7 @@ use Rattle.plan.specs.View.{emptyPlan}
 use Rattle.upload.specs.declared.Effect.{Effect}
 use Rattle.upload.specs.declared.Effect.the-variants.{Nothing, Renews, EmptiesAll}
 use Rattle.upload.specs.declared.Turned.{Turned}
-use Rattle.upload.specs.Turns.{TurnAndStore, emptied, countTurned, ackTurned, timerTurned, itemTurned, othersUpload, stationOf}
+use Rattle.upload.specs.Turns.{TurnAndStore, emptied, countTurned, partTurned, ackTurned, timerTurned, itemTurned, othersUpload, stationOf}
 use Rattle.answers.specs.declared.Handled.{Handled}
 use Rattle.answers.specs.Answered.{answerOf, Handles}
 use Rattle.shown.specs.Shown.{listAnswer, requestAnswer, chooseEffect, chooseAnswer}
@@ -71,6 +71,7 @@ unfoldable pub planDone : Form → Plan → (current : ℕ) → Store → Statio
 planDone F p current s from now kind (chooses seq) = does Nothing s silent
 planDone F p current s from now kind asksList = does Nothing s (listAnswer p from kind)
 planDone F p current s from now kind (announces n) = turns s kind from (countTurned p from now n (sizeOf kind))
+planDone F p current s from now kind (changes start end) = turns s kind from (partTurned p from now start end)
 planDone F p current s from now kind clears = does Nothing s silent
 planDone F p current s from now kind (acknowledges result) = turns s kind from (ackTurned p from result)
 planDone F p current s from now kind (asksItem seq) = does Nothing s (requestAnswer F p current s from kind seq)
@@ -82,6 +83,7 @@ knownDone F ps current s from now kind (chooses seq) =
     does (chooseEffect (planAmong ps flight) seq) s (chooseAnswer (planAmong ps flight) (planAmong ps fence) (planAmong ps rally) seq)
 knownDone F ps current s from now kind asksList = planDone F (planAmong ps kind) current s from now kind asksList
 knownDone F ps current s from now kind (announces n) = planDone F (planAmong ps kind) current s from now kind (announces n)
+knownDone F ps current s from now kind (changes start end) = planDone F (planAmong ps kind) current s from now kind (changes start end)
 knownDone F ps current s from now kind clears = clearDone ps s from kind
 knownDone F ps current s from now kind (acknowledges result) = planDone F (planAmong ps kind) current s from now kind (acknowledges result)
 knownDone F ps current s from now kind (asksItem seq) = planDone F (planAmong ps kind) current s from now kind (asksItem seq)

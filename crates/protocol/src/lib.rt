@@ -34,12 +34,14 @@ use plan::Plan;
 use taking::take_item;
 use upload::turns::on_ack;
 use upload::turns::on_count;
+use upload::turns::on_partial;
 use upload::turns::on_timer;
 use upload::uploads::station_of;
 use wire::ACK_ID;
 use wire::CLEAR_ALL_ID;
 use wire::COUNT_ID;
 use wire::OWN_BYTES;
+use wire::PARTIAL_LIST_ID;
 use wire::REQUEST_INT_ID;
 use wire::REQUEST_LIST_ID;
 use wire::SET_CURRENT_ID;
@@ -68,7 +70,7 @@ fn acknowledge(plan: Plan, kind: u8, result: u8, system: u8, component: u8) -> H
     Handled { effect, said }
 }
 
-// The messages that speak of the plan of a kind: REQUEST_LIST, COUNT, REQUEST_INT and ITEM_INT.
+// The messages that speak of the plan of a kind: MISSION_WRITE_PARTIAL_LIST, REQUEST_LIST, COUNT, REQUEST_INT and ITEM_INT.
 fn turn(
     plan: Plan,
     current: u16,
@@ -90,6 +92,11 @@ fn turn(
         COUNT_ID => {
             let m = wire::read_count(own);
             let turned = on_count(plan, system, component, clock, m.count, size_of(kind));
+            told(turned, kind, system, component, reply)
+        }
+        PARTIAL_LIST_ID => {
+            let m = wire::read_partial_list(own);
+            let turned = on_partial(plan, system, component, clock, m.start, m.end);
             told(turned, kind, system, component, reply)
         }
         REQUEST_INT_ID => {

@@ -2,24 +2,25 @@
 use Prim.Native.Nat.{ℕ, _+_, _<_, _≤_}
 use mathlib.Core.Path.{_≡_, refl}
 use mathlib.Core.Bool.{Bool, true, false, not, cond, _&&_}
-use lib.Dec.{eqb, ltb, leb}
-use borrow.Author.Tests.{ltb-true, leb-true}
+use lib.Dec.{eqb, leb}
+use borrow.Author.Tests.{leb-true}
 use native.Mathlib.Omega.{arith}
-use Rattle.rules.specs.Limits.{accepted, invalid, invalidSequence, denied, maxRepeats}
+use Rattle.rules.specs.Limits.{accepted, invalidSequence, denied, maxRepeats}
 use Rattle.rules.specs.Messages.{Station, Item, sameStation}
 use Rattle.rule_laws.specs.Tests.{both}
+use Rattle.rule_laws.specs.Tasks.{TaskRanges, task-ranges}
 use Rattle.plan.specs.declared.Plan.{Plan}
 use Rattle.plan.specs.declared.Run.{Run}
 use Rattle.plan.specs.declared.Upload.{Upload}
 use Rattle.plan.specs.declared.Upload.the-variants.{Idle, Running}
-use Rattle.places.specs.Forms.{Store, words, itemsIn}
+use Rattle.places.specs.Forms.{Store, words}
 use Rattle.ranges.specs.Ranges.{runRanged, uploadRanged}
-use Rattle.rules.specs.Model.{nextNumber, wholeOk}
-use Rattle.plan.specs.View.{stationIn}
+use Rattle.rules.specs.Model.{taskInRange}
+use Rattle.plan.specs.View.{stationIn, taskIn}
 use Rattle.upload.specs.declared.Say.the-variants.{Ack, Ask}
 use Rattle.taking.specs.declared.Judged.{Judged}
 use Rattle.taking.specs.declared.Judged.the-variants.{Refused, OutOfTurn, Invalid, Valid}
-use Rattle.upload.specs.Turns.{withUpload, ended, replaced, oneMore, keeps, moves, renews, TurnAndStore, turnWith, stored, validItemTurned, itemVerdict, itemTurned}
+use Rattle.upload.specs.Turns.{ended, keeps, moves, TurnAndStore, turnWith, stored, validItemTurned, itemVerdict, itemTurned}
 
 unfoldable pub judgedAs : Store → (kind : ℕ) → Upload → Plan → Station → Item → Judged
 judgedAs s kind Idle p from item = Refused invalidSequence
@@ -66,35 +67,41 @@ valid-running s kind (Running q) p from item r e = go (not (sameStation from (st
     go false false true e = absurd (let z : _≡_ {A = ℕ} 0 1 = cc in omega arith)
     go false false false e = cc
 
--- taking an item leaves the store as the item was put there
-pub valid-store : (s : Store) (kind : ℕ) (p : Plan) (r : Run) (now : ℕ) → validItemTurned words s kind p r now .store ≡ s
-unfolding validItemTurned
-valid-store s kind p r now = go (not (eqb (r .next + 1) (r .count))) (wholeOk kind (itemsIn words s (not (p .half)) kind (r .count)))
-  where
-    go : (a b : Bool)
-        → cond a (turnWith (moves (withUpload p (Running (oneMore r now))) (Ask (r .next + 1))) s)
-        (cond b (turnWith (renews (replaced p (r .count)) (Ack accepted (nextNumber (p .number)))) s) (turnWith (moves (ended p) (Ack invalid 0)) s))
-        .store
-        ≡ s
-    go true b = refl
-    go false true = refl
-    go false false = refl
-
--- what the range of a running upload tells
-pub record InRange (size : ℕ) (r : Run) : Type 0 where
-  pub nextBelow : r .next < r .count
+-- what the range of a running upload tells, beside a plan of `len` items
+pub record InRange (size len : ℕ) (r : Run) : Type 0 where
   pub countWithin : r .count ≤ size
+  pub task : TaskRanges len (taskIn r) (r .next)
 
-run-in-range : (size : ℕ) (r : Run) → runRanged size r ≡ true → InRange size r
-run-in-range size r e =
+run-in-range : (size len : ℕ) (r : Run) → runRanged size len r ≡ true → InRange size len r
+run-in-range size len r e =
     let some = leb 1 (r .count) in
     let within = leb (r .count) size in
-    let below = ltb (r .next) (r .count) in
-    let three : (some && within && below) ≡ true = both (some && within && below) (leb (r .repeats) maxRepeats) e .0 in
+    let task = taskInRange len (taskIn r) (r .next) in
+    let three : (some && within && task) ≡ true = both (some && within && task) (leb (r .repeats) maxRepeats) e .0 in
     record {
-      nextBelow = ltb-true (r .next) (r .count) (both (some && within) below three .1);
-      countWithin = leb-true (r .count) size (both some within (both (some && within) below three .0) .1);
+      countWithin = leb-true (r .count) size (both some within (both (some && within) task three .0) .1);
+      task = task-ranges len (taskIn r) (r .next) (both (some && within) task three .1);
     }
 
-pub running-in-range : (size : ℕ) (u : Upload) (r : Run) → uploadRanged size u ≡ true → u ≡ Running r → InRange size r
-running-in-range size u r ranged e = run-in-range size r (rw e at ranged)
+pub running-in-range : (size len : ℕ) (u : Upload) (r : Run) → uploadRanged size len u ≡ true → u ≡ Running r → InRange size len r
+running-in-range size len u r ranged e = run-in-range size len r (rw e at ranged)
+
+pub next-within : (size len : ℕ) (r : Run) → InRange size len r → r .next < size
+next-within size len r h =
+    let a = h .countWithin in
+    let b = h .task .upto in
+    let c = h .task .inside in
+    omega arith
+
+pub next-upto : (size len : ℕ) (r : Run) → InRange size len r → r .next ≤ size
+next-upto size len r h = let below = next-within size len r h in omega arith
+
+pub first-within : (size len : ℕ) (r : Run) → InRange size len r → r .first ≤ size
+first-within size len r h =
+    let a = next-within size len r h in
+    let b = h .task .begun in
+    omega arith
+
+-- the number behind the last is at most the count
+pub past-last : (size len : ℕ) (r : Run) → InRange size len r → r .last + 1 ≤ r .count
+past-last size len r h = let a = h .task .inside in omega arith

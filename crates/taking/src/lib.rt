@@ -1,34 +1,42 @@
 // ITEM_INT: an item is judged, station and number first; a valid one is put into the other half of the store and taken.
 ghost use mathlib.Core.Path.{_≡_};
-ghost use mathlib.Core.Bool.{true, cond};
+ghost use mathlib.Core.Bool.{true, not, cond, _&&_};
 ghost use Prim.Native.Nat.{_≤_};
-ghost use lib.ListN.{length};
-ghost use Rattle.rules.specs.Limits.{rally, sizeOf, storeWords};
+ghost use lib.ListN.{length, drop};
+ghost use lib.Dec.{eqb, ltb};
+ghost use Rattle.rules.specs.Limits.{flight, fence, rally, sizeOf, maxJumps, storeWords};
 ghost use Rattle.rules.specs.Messages.{station};
-ghost use Rattle.rules.specs.Items.{fault, isJump, jumpsAmong};
-ghost use Rattle.rules.specs.Model.{wholeOk};
+ghost use Rattle.rules.specs.Items.{isJump, jumpsAmong};
+ghost use Rattle.rules.specs.Fence.{fenceOk};
+ghost use Rattle.rules.specs.Model.{verdictOn, wholeFault};
 ghost use Rattle.item.specs.Patterns.{itemFor, patterns};
 ghost use Rattle.places.specs.Forms.{words, itemsIn};
+ghost use Rattle.plan.specs.View.{taskIn};
 ghost use Rattle.ranges.specs.Ranges.{uploadRanged};
-ghost use Rattle.upload.specs.Turns.{turnWith, validItemTurned, itemTurned};
+ghost use Rattle.upload.specs.Turns.{turnWith, settled, lastTurned, validItemTurned, itemTurned};
 ghost use Rattle.taking.specs.Judging.{InRange, judgedAs};
 use fence::fence_ok;
 use item::Item;
 use limits::ACCEPTED;
 use limits::DENIED;
 use limits::FENCE;
+use limits::FLIGHT;
 use limits::INVALID;
 use limits::INVALID_SEQUENCE;
+use limits::MAX_JUMPS;
+use limits::NO_SPACE;
 use places::jumps;
 use plan::Plan;
 use plan::Run;
 use plan::Upload;
+use storage::carry_items;
+use storage::keep;
 use upload::Say;
 use upload::Turned;
 use upload::updates::ended;
 use upload::updates::keeps;
 use upload::updates::moves;
-use upload::updates::renews;
+use upload::updates::puts_in;
 use upload::updates::replaced;
 use upload::updates::with_upload;
 use upload::uploads::is_from;
@@ -42,23 +50,23 @@ enum Judged {
     Valid(Run),
 }
 
-// The jumps among the first n items of a kind in a half, counted where the item is a jump; no other asks for room.
-fn jumps_before(store: &[u32], kind: u8, half: bool, n: u16, item: Item) -> u16
+// The jumps among the first n items of a kind in a half, counted where the item is a jump of a whole upload; no other asks for room.
+fn jumps_before(store: &[u32], kind: u8, half: bool, n: u16, partial: bool, item: Item) -> u16
     requires { ⌜ (storeWords ≤ length (now store)) × (kind ≤ rally) × (n ≤ sizeOf kind) ⌝ }
-    ensures { λ r. ⌜ r ≡ cond (isJump (patterns item)) (jumpsAmong (itemsIn words (now (store .entry)) half kind n)) 0 ⌝ }
+    ensures { λ r. ⌜ r ≡ cond (isJump (patterns item) && not partial) (jumpsAmong (itemsIn words (now (store .entry)) half kind n)) 0 ⌝ }
 {
-    if item::is_jump(item) {
+    if item::is_jump(item) & !partial {
         return jumps(store, kind, half, n);
     }
     0
 }
 
-// The result for an item as the next of an upload whose items taken stand in a half.
-fn result_of(store: &[u32], kind: u8, half: bool, run: Run, item: Item) -> u8
-    requires { ⌜ (storeWords ≤ length (now store)) × (kind ≤ rally) × InRange (sizeOf kind) run × (item ≡ itemFor (patterns item)) ⌝ }
-    ensures { λ r. ⌜ r ≡ fault kind (run .count) (run .next) (jumpsAmong (itemsIn words (now (store .entry)) half kind (run .next))) (patterns item) ⌝ }
+// The result for an item as the next of an upload, whose items taken stand in the half that the plan is not in.
+fn result_of(store: &[u32], kind: u8, plan: Plan, run: Run, item: Item) -> u8
+    requires { ⌜ (storeWords ≤ length (now store)) × (kind ≤ rally) × InRange (sizeOf kind) (plan .len) run × (item ≡ itemFor (patterns item)) ⌝ }
+    ensures { λ r. ⌜ r ≡ verdictOn kind (taskIn run) (run .next) (drop (run .first) (itemsIn words (now (store .entry)) (not (plan .half)) kind (run .next))) (patterns item) ⌝ }
 {
-    let before = jumps_before(store, kind, half, run.next, item);
+    let before = jumps_before(store, kind, !plan.half, run.next, run.partial, item);
     item_rules::verdict(item, kind, run.count, run.next, before)
 }
 
@@ -72,7 +80,7 @@ fn judge_running(
     component: u8,
     item: Item,
 ) -> Judged
-    requires { ⌜ (storeWords ≤ length (now store)) × (kind ≤ rally) × InRange (sizeOf kind) run × (item ≡ itemFor (patterns item)) ⌝ }
+    requires { ⌜ (storeWords ≤ length (now store)) × (kind ≤ rally) × InRange (sizeOf kind) (plan .len) run × (item ≡ itemFor (patterns item)) ⌝ }
     ensures { λ r. ⌜ r ≡ judgedAs (now (store .entry)) kind (Upload.Running run) plan (station system component) (patterns item) ⌝ }
 {
     if !is_from(run, system, component) {
@@ -81,7 +89,7 @@ fn judge_running(
     if item.seq != run.next {
         return Judged::OutOfTurn(run.next);
     }
-    let result = result_of(store, kind, !plan.half, run, item);
+    let result = result_of(store, kind, plan, run, item);
     if result != ACCEPTED {
         return Judged::Invalid(result);
     }
@@ -89,7 +97,7 @@ fn judge_running(
 }
 
 fn judge(store: &[u32], kind: u8, plan: Plan, system: u8, component: u8, item: Item) -> Judged
-    requires { ⌜ (storeWords ≤ length (now store)) × (kind ≤ rally) × (uploadRanged (sizeOf kind) (plan .upload) ≡ true) × (item ≡ itemFor (patterns item)) ⌝ }
+    requires { ⌜ (storeWords ≤ length (now store)) × (kind ≤ rally) × (uploadRanged (sizeOf kind) (plan .len) (plan .upload) ≡ true) × (item ≡ itemFor (patterns item)) ⌝ }
     ensures { λ r. ⌜ r ≡ judgedAs (now (store .entry)) kind (plan .upload) plan (station system component) (patterns item) ⌝ }
 {
     let upload = plan.upload;
@@ -99,42 +107,91 @@ fn judge(store: &[u32], kind: u8, plan: Plan, system: u8, component: u8, item: I
     }
 }
 
-// Whether the first n items of a kind in a half may become its plan: a fence keeps its rule.
-fn whole_ok(store: &[u32], kind: u8, half: bool, n: u16) -> bool
+// The upload has its last item: to those of a part the plan's other items are put, from the half that the plan stands in.
+fn settle(store: &mut [u32], kind: u8, plan: Plan, run: Run)
+    requires { ⌜ (storeWords ≤ length (now store)) × (kind ≤ rally) × InRange (sizeOf kind) (plan .len) run ⌝ }
+    ensures { λ _. ⌜ now (store .exit) ≡ settled words (now (store .entry)) kind plan run ⌝ }
+{
+    if run.partial {
+        carry_items(store, kind, plan.half, 0, run.first);
+        carry_items(store, kind, plan.half, run.last + 1, run.count);
+    }
+}
+
+// Whether a flight plan with a part changed, which stands in a half, has jumps too many.
+fn too_many_jumps(store: &[u32], kind: u8, half: bool, run: Run) -> bool
+    requires { ⌜ (storeWords ≤ length (now store)) × (kind ≤ rally) × (run .count ≤ sizeOf kind) ⌝ }
+    ensures { λ r. ⌜ r ≡ (run .partial && eqb kind flight && ltb maxJumps (jumpsAmong (itemsIn words (now (store .entry)) half kind (run .count)))) ⌝ }
+{
+    if run.partial & (kind == FLIGHT) {
+        return MAX_JUMPS < jumps(store, kind, half, run.count);
+    }
+    false
+}
+
+// Whether the first n items of a kind in a half are a fence that breaks its rule.
+fn breaks_fence(store: &[u32], kind: u8, half: bool, n: u16) -> bool
     requires { ⌜ (storeWords ≤ length (now store)) × (n ≤ sizeOf kind) ⌝ }
-    ensures { λ r. ⌜ r ≡ wholeOk kind (itemsIn words (now (store .entry)) half kind n) ⌝ }
+    ensures { λ r. ⌜ r ≡ (eqb kind fence && not (fenceOk (itemsIn words (now (store .entry)) half kind n))) ⌝ }
 {
     if kind == FENCE {
-        return fence_ok(store, half, n);
+        return !fence_ok(store, half, n);
     }
-    true
+    false
 }
 
-// A valid item is in the store: the next is asked for, or after the last the plan is replaced.
-fn valid_turn(store: &[u32], kind: u8, plan: Plan, run: Run, clock: u32) -> Turned
-    requires { ⌜ (storeWords ≤ length (now store)) × InRange (sizeOf kind) run ⌝ }
-    ensures { λ r. ⌜ r ≡ validItemTurned words (now (store .entry)) kind plan run clock .turned ⌝ }
+// The result for the items of an upload as a whole, which stand in a half.
+fn whole_fault(store: &[u32], kind: u8, half: bool, run: Run) -> u8
+    requires { ⌜ (storeWords ≤ length (now store)) × (kind ≤ rally) × (run .count ≤ sizeOf kind) ⌝ }
+    ensures { λ r. ⌜ r ≡ wholeFault kind (taskIn run) (itemsIn words (now (store .entry)) half kind (run .count)) ⌝ }
 {
-    let next = run.next + 1;
-    if next != run.count {
-        let more = Run {
-            system: run.system,
-            component: run.component,
-            count: run.count,
-            next,
-            started: clock,
-            repeats: 0,
-        };
-        return moves(with_upload(plan, Upload::Running(more)), Say::Ask(next));
+    if too_many_jumps(store, kind, half, run) {
+        return NO_SPACE;
     }
-    if whole_ok(store, kind, !plan.half, run.count) {
-        let new = replaced(plan, run.count);
-        return renews(new, Say::Ack(ACCEPTED, new.number));
+    if breaks_fence(store, kind, half, run.count) {
+        return INVALID;
     }
-    moves(ended(plan), Say::Ack(INVALID, 0))
+    ACCEPTED
 }
 
-// ITEM_INT from a station. Only a valid item changes the store, at the upload's next place in the other half.
+// The upload's last item is in the store: the plan is replaced, or the whole is refused.
+fn last_turn(store: &mut [u32], kind: u8, plan: Plan, run: Run) -> Turned
+    requires { ⌜ (storeWords ≤ length (now store)) × (kind ≤ rally) × InRange (sizeOf kind) (plan .len) run ⌝ }
+    ensures { λ r. ⌜ turnWith r (now (store .exit)) ≡ turnWith (lastTurned words (settled words (now (store .entry)) kind plan run) kind plan run) (settled words (now (store .entry)) kind plan run) ⌝ }
+{
+    settle(store, kind, plan, run);
+    let result = whole_fault(store, kind, !plan.half, run);
+    if result != ACCEPTED {
+        return moves(ended(plan), Say::Ack(result, 0));
+    }
+    let new = replaced(plan, run.count);
+    puts_in(run.partial, new, Say::Ack(ACCEPTED, new.number))
+}
+
+// A valid item is in the store: the next is asked for, if it is not the last.
+fn valid_turn(store: &mut [u32], kind: u8, plan: Plan, run: Run, clock: u32) -> Turned
+    requires { ⌜ (storeWords ≤ length (now store)) × (kind ≤ rally) × InRange (sizeOf kind) (plan .len) run ⌝ }
+    ensures { λ r. ⌜ turnWith r (now (store .exit)) ≡ validItemTurned words (now (store .entry)) kind plan run clock ⌝ }
+{
+    if run.next == run.last {
+        return last_turn(store, kind, plan, run);
+    }
+    let next = run.next + 1;
+    let more = Run {
+        system: run.system,
+        component: run.component,
+        count: run.count,
+        partial: run.partial,
+        first: run.first,
+        last: run.last,
+        next,
+        started: clock,
+        repeats: 0,
+    };
+    moves(with_upload(plan, Upload::Running(more)), Say::Ask(next))
+}
+
+// ITEM_INT from a station. Only a valid item changes the store, at the upload's next place in the other half; the last of a part, at all places of the plan there.
 pub fn take_item(
     plan: Plan,
     store: &mut [u32],
@@ -144,7 +201,7 @@ pub fn take_item(
     clock: u32,
     item: Item,
 ) -> Turned
-    requires { ⌜ (storeWords ≤ length (now store)) × (kind ≤ rally) × (uploadRanged (sizeOf kind) (plan .upload) ≡ true) × (item ≡ itemFor (patterns item)) ⌝ }
+    requires { ⌜ (storeWords ≤ length (now store)) × (kind ≤ rally) × (uploadRanged (sizeOf kind) (plan .len) (plan .upload) ≡ true) × (item ≡ itemFor (patterns item)) ⌝ }
     ensures { λ r. ⌜ turnWith r (now (store .exit)) ≡ itemTurned words (now (store .entry)) kind (plan .upload) plan (station system component) clock (patterns item) ⌝ }
 {
     let judged = judge(store, kind, plan, system, component, item);
@@ -153,7 +210,7 @@ pub fn take_item(
         Judged::OutOfTurn(next) => keeps(Say::Ask(next)),
         Judged::Invalid(result) => moves(ended(plan), Say::Ack(result, 0)),
         Judged::Valid(run) => {
-            storage::keep(store, kind, !plan.half, run.next, item);
+            keep(store, kind, !plan.half, run.next, item);
             valid_turn(store, kind, plan, run, clock)
         }
     }

@@ -1,52 +1,50 @@
 -- Every call keeps the ranges, handler by handler.
-use Prim.Native.Nat.{ℕ, _+_, _≤_, _<_}
+use Prim.Native.Nat.{ℕ, _+_, _-_, _≤_, _<_}
 use native.Mathlib.Omega.{arith}
-use mathlib.Core.Path.{_≡_, refl, ap}
-use mathlib.Core.List.{List, [], _∷_}
-use mathlib.Core.Bool.{Bool, true, false, not, _&&_}
+use mathlib.Core.Path.{_≡_, refl, sym, ap, _∙_}
+use mathlib.Core.List.{List, [], _∷_, _++_}
+use mathlib.Core.Bool.{Bool, true, false, true≢false, not, _&&_}
 use lib.ListN.{length, length-append, List·getD-eq-default}
 use lib.Dec.{eqb, leb, ltb}
-use borrow.Author.Tests.{leb-true, leb-false, ltb-true, ltb-false, le-leb, lt-ltb, eqb-true, eqb-false, not-false, not-true}
-use Rattle.rules.specs.Limits.{flight, rally, sizeOf, maxRepeats, expiryMs, accepted, storeWords, replyBytesMin}
+use borrow.Author.Tests.{leb-true, leb-false, ltb-true, ltb-false, le-leb, lt-ltb, eqb-true, eqb-false, eq-eqb, not-false, not-true}
+use Rattle.rules.specs.Limits.{flight, rally, sizeOf, halfShort, maxRepeats, expiryMs, accepted, storeWords, replyBytesMin}
 use Rattle.rules.specs.Payload.{Bytes}
-use Rattle.rules.specs.Messages.{Station, sameStation, Item, Message, setCurrent, current, requestList, count, clearAll, ack, requestInt, itemInt, statustext, unknown, decode, itemOf}
-use Rattle.rules.specs.Items.{jumpsAmong, fault}
-use Rattle.rules.specs.Model.{Plan, Run, Upload, idle, running, Model, planOf, uploadOf, lengthOf, fresh, nextNumber, elapsed, expected, isLast, whole, wholeOk, isOthers, isOwn, withPlan, put, uploadInRange, inRange}
-use Rattle.rules.specs.Calls.{Call, message, timer, done, Request, chooses, asksList, announces, clears, acknowledges, asksItem, brings, Heard, refuses, request, expiry, commandDone, isKnown, oursOrAll, heardMessage, forUs, heard}
-use Rattle.rules.specs.Step.{Stepped, withUpload, onCount, onValidItem, onItem, onAck, onClear, anyOthers, covered, onList, onRequest, onSetCurrent, onKnown, kindOk, onMessage, onTimer, act, step, run}
+use Rattle.rules.specs.Messages.{Station, sameStation, Item, Message, partialList, setCurrent, current, requestList, count, clearAll, ack, requestInt, itemInt, statustext, unknown, decode, itemOf}
+use Rattle.rules.specs.Model.{Plan, Run, Upload, idle, running, Model, planOf, uploadOf, lengthOf, fresh, nextNumber, elapsed, Task, wholeTask, partTask, taskInRange, expected, isLast, verdictOn, whole, wholeFault, isOthers, isOwn, put, uploadInRange, inRange}
+use Rattle.rules.specs.Calls.{Call, message, timer, done, Request, chooses, asksList, announces, changes, clears, acknowledges, asksItem, brings, Heard, refuses, request, expiry, commandDone, isKnown, oursOrAll, heardMessage, forUs, heard}
+use Rattle.rules.specs.Step.{Stepped, withUpload, opens, onCount, partOk, onPartial, onValidItem, onItem, onAck, onClear, anyOthers, covered, onList, onRequest, onSetCurrent, onKnown, kindOk, onMessage, onTimer, act, step, run}
 use Rattle.rule_laws.specs.Tests.{both, either}
 use Rattle.rule_laws.specs.Kinds.{covered-known}
-use Rattle.call_lists.specs.Laws.Ranged.{Formed, fresh-formed, formed-ranged, upload-formed, plan-formed, empty-formed, choose-formed}
+use Rattle.rule_laws.specs.Tasks.{TaskRanges, RunRanges, run-ranges}
+use Rattle.call_lists.specs.Laws.Ranged.{InTurn, Formed, fresh-formed, formed-ranged, upload-formed, plan-formed, empty-formed, choose-formed}
 use Rattle.call_lists.specs.Laws.Search.{advance-formed}
+use Rattle.call_lists.specs.Laws.Whole.{whole-length}
 
--- "a running upload's count 1 to size, its next number below its count, its repeats 0 to 5"
-pub record RunRanged (kind : ℕ) (r : Run) : Type 0 where
-  pub some : 1 ≤ r .count
-  pub most : r .count ≤ sizeOf kind
-  pub next : expected r < r .count
-  pub repeats : r .repeats ≤ maxRepeats
+-- what the range test says of a task (`TaskRanges`) is all that it asks
+ranges-task : (len : ℕ) (t : Task) (next : ℕ) → TaskRanges len t next → taskInRange len t next ≡ true
+unfolding taskInRange
+ranges-task len t next h = go (t .partial) refl
+  where
+    go : (b : Bool) → t .partial ≡ b → taskInRange len t next ≡ true
+    go true b =
+        rw (b, eq-eqb (t .count) len (h .part b), le-leb (t .first) next (h .begun), le-leb next (t .last) (h .upto)) (lt-ltb (t .last) (t .count) (h .inside))
+    go false b =
+        let upto = h .upto in
+        let end = h .toEnd b in
+        rw (b, eq-eqb (t .first) 0 (h .fromStart b), eq-eqb (t .last) (t .count - 1) (omega arith)) (lt-ltb next (t .count) (omega arith))
 
-pub run-ranged : (kind : ℕ) (r : Run) → uploadInRange kind (running r) ≡ true → RunRanged kind r
+ranged-run : (kind len : ℕ) (r : Run) → RunRanges kind len r → r .repeats ≤ maxRepeats → uploadInRange kind len (running r) ≡ true
 unfolding uploadInRange
-run-ranged kind r e =
-    let a = leb 1 (r .count) in
-    let b = leb (r .count) (sizeOf kind) in
-    let c = ltb (expected r) (r .count) in
-    let d = leb (r .repeats) maxRepeats in
-    let abc = both (a && b && c) d e in
-    let ab = both (a && b) c (abc .0) in
-    let parts = both a b (ab .0) in
-    record {
-      some = leb-true 1 (r .count) (parts .0);
-      most = leb-true (r .count) (sizeOf kind) (parts .1);
-      next = ltb-true (expected r) (r .count) (ab .1);
-      repeats = leb-true (r .repeats) maxRepeats (abc .1);
-    }
+ranged-run kind len r h few =
+    let inside = h .task .inside in
+    rw (le-leb 1 (r .task .count) (omega arith), le-leb (r .task .count) (sizeOf kind) (h .most), ranges-task len (r .task) (expected r) (h .task)) (le-leb (r .repeats) maxRepeats few)
 
-ranged-run : (kind : ℕ) (r : Run) → RunRanged kind r → uploadInRange kind (running r) ≡ true
-unfolding uploadInRange
-ranged-run kind r h =
-    rw (le-leb 1 (r .count) (h .some), le-leb (r .count) (sizeOf kind) (h .most), lt-ltb (expected r) (r .count) (h .next)) (le-leb (r .repeats) maxRepeats (h .repeats))
+-- the next number, where this is not the last
+next-ranges : (len : ℕ) (t : Task) (next : ℕ) → (next ≡ t .last → ⊥) → TaskRanges len t next → TaskRanges len t (next + 1)
+next-ranges len t next other h =
+    let begun = h .begun in
+    let upto = h .upto in
+    record { begun = omega arith; upto = omega (arith, other); inside = h .inside; part = h .part; fromStart = h .fromStart; toEnd = h .toEnd }
 
 abbrev Kept : Stepped → Type 0
 Kept s = Formed (s .model)
@@ -54,10 +52,15 @@ Kept s = Formed (s .model)
 module _ (m : Model) (f : Formed m) (from : Station) (now kind : ℕ) (known : isKnown kind ≡ true) where
   ended-kept : Formed (withUpload kind idle m)
   unfolding uploadInRange
-  ended-kept = upload-formed m kind idle known refl f
+  ended-kept = upload-formed m kind idle known refl tt f
 
-  running-kept : (r : Run) → RunRanged kind r → Formed (withUpload kind (running r) m)
-  running-kept r h = upload-formed m kind (running r) known (ranged-run kind r h) f
+  running-kept : (r : Run) → RunRanges kind (lengthOf (m .shown) kind) r → r .repeats ≤ maxRepeats → InTurn (running r) → Formed (withUpload kind (running r) m)
+  running-kept r h few turn = upload-formed m kind (running r) known (ranged-run kind (lengthOf (m .shown) kind) r h few) turn f
+
+  -- an upload opens with its first number
+  opens-kept : (t : Task) → t .count ≤ sizeOf kind → TaskRanges (lengthOf (m .shown) kind) t (t .first) → Kept (opens m from now kind t)
+  opens-kept t most h =
+      running-kept (record { station = from; task = t; next = t .first; taken = []; started = now; repeats = 0 }) (record { most = most; task = h }) (omega arith) (omega arith)
 
   count-kept : (n : ℕ) → Kept (onCount m from now kind n)
   unfolding onCount
@@ -65,49 +68,60 @@ module _ (m : Model) (f : Formed m) (from : Station) (now kind : ℕ) (known : i
       either Kept (isOthers from (uploadOf m kind)) (λ t. f)
       (λ t. either Kept (ltb (sizeOf kind) n) (λ t. ended-kept)
       (λ most. either Kept (eqb n 0) (λ t. empty-formed m (kind ∷ []) (rw known) f)
-      (λ some. running-kept (record { station = from; count = n; taken = []; started = now; repeats = 0 })
-      (let other : n ≡ 0 → ⊥ = eqb-false n 0 some in
-      record { some = omega arith; most = ltb-false (sizeOf kind) n most; next = omega arith; repeats = omega arith }))))
+      (λ some. let other : n ≡ 0 → ⊥ = eqb-false n 0 some in
+      opens-kept (wholeTask n) (ltb-false (sizeOf kind) n most)
+      (record { begun = omega arith; upto = omega arith; inside = omega (arith, other); part = λ e. absurd (true≢false (sym e)); fromStart = λ e. refl; toEnd = λ e. omega (arith, other) }))))
 
-  idle-ranged : uploadInRange kind idle ≡ true
-  unfolding uploadInRange
-  idle-ranged = refl
+  part-kept : (start end : ℕ) → Kept (onPartial m from now kind start end)
+  unfolding onPartial partOk
+  part-kept start end =
+      let len = lengthOf (m .shown) kind in
+      either Kept (isOthers from (uploadOf m kind)) (λ t. f)
+      (λ t. either Kept (not (partOk len start end)) (λ t. ended-kept)
+      (λ ok. let short = ltb start halfShort && ltb end halfShort in
+      let parts = both (short && leb start end) (ltb end len) (not-false (partOk len start end) ok) in
+      let order = leb-true start end (both short (leb start end) (parts .0) .1) in
+      opens-kept (partTask len start end) (f .plan kind known)
+      (record { begun = omega arith; upto = order; inside = ltb-true end len (parts .1); part = λ e. refl; fromStart = λ e. absurd (true≢false e); toEnd = λ e. absurd (true≢false e) })))
 
-  valid-kept : (r : Run) (b : Bytes) → RunRanged kind r → Kept (onValidItem m from now kind r b)
+  valid-kept : (r : Run) (b : Bytes) → RunRanges kind (lengthOf (m .shown) kind) r → InTurn (running r) → Kept (onValidItem m from now kind r b)
   unfolding onValidItem put
-  valid-kept r b h =
-      let longer : length (whole r b) ≡ expected r + 1 = length-append (r .taken) (b ∷ []) in
+  valid-kept r b h turn =
+      let len = lengthOf (m .shown) kind in
+      let old = planOf (m .shown) kind .items in
+      let got = r .taken ++ (b ∷ []) in
+      let items = whole (r .task) old got in
+      let longer : length got ≡ length (r .taken) + 1 = length-append (r .taken) (b ∷ []) in
       either Kept (not (isLast r))
-      (λ more. running-kept (record { station = r .station; count = r .count; taken = whole r b; started = now; repeats = 0 })
-      (let other : expected r + 1 ≡ r .count → ⊥ = eqb-false (expected r + 1) (r .count) (not-true (isLast r) more) in
-      let next = h .next in
-      record { some = h .some; most = h .most; next = omega arith; repeats = omega arith }))
-      (λ last. either Kept (wholeOk kind (whole r b))
-      (λ t. let all : expected r + 1 ≡ r .count = eqb-true (expected r + 1) (r .count) (not-false (isLast r) last) in
+      (λ more. running-kept (record { station = r .station; task = r .task; next = expected r + 1; taken = got; started = now; repeats = 0 })
+      (record { most = h .most; task = next-ranges len (r .task) (expected r) (eqb-false (expected r) (r .task .last) (not-true (isLast r) more)) (h .task) }) (omega arith) (omega arith))
+      (λ last. either Kept (eqb (wholeFault kind (r .task) items) accepted)
+      (λ t. let at-last : expected r ≡ r .task .last = eqb-true (expected r) (r .task .last) (not-false (isLast r) last) in
+      let long : length items ≡ r .task .count = whole-length (r .task) (expected r) old got (h .task) (omega arith) in
       let most = h .most in
-      let p : Plan = record { items = whole r b; number = nextNumber (planOf (m .shown) kind .number) } in
-      upload-formed (record { shown = withPlan kind p (m .shown); uploads = m .uploads }) kind idle known idle-ranged (plan-formed m kind p known (omega arith) f))
+      let p : Plan = record { items = items; number = nextNumber (planOf (m .shown) kind .number) } in
+      plan-formed m (r .task .partial) kind p known (omega arith) (λ e. long ∙ h .task .part e) f)
       (λ t. ended-kept))
 
-  item-kept : (u : Upload) → uploadInRange kind u ≡ true → (item : Item) → Kept (onItem u m from now kind item)
+  item-kept : (u : Upload) → uploadInRange kind (lengthOf (m .shown) kind) u ≡ true → InTurn u → (item : Item) → Kept (onItem u m from now kind item)
   unfolding onItem
-  item-kept idle e item = f
-  item-kept (running r) e item =
-      let verdict = fault kind (r .count) (expected r) (jumpsAmong (r .taken)) item in
+  item-kept idle e turn item = f
+  item-kept (running r) e turn item =
+      let verdict = verdictOn kind (r .task) (expected r) (r .taken) item in
       either Kept (not (sameStation from (r .station))) (λ t. f)
       (λ t. either Kept (not (eqb (item .seq) (expected r))) (λ t. f)
-      (λ t. either Kept (not (eqb verdict accepted)) (λ t. ended-kept) (λ t. valid-kept r (itemOf item) (run-ranged kind r e))))
+      (λ t. either Kept (not (eqb verdict accepted)) (λ t. ended-kept) (λ t. valid-kept r (itemOf item) (run-ranges kind (lengthOf (m .shown) kind) r e) turn)))
 
-  timer-kept : (u : Upload) → uploadInRange kind u ≡ true → Kept (onTimer u m now kind)
+  timer-kept : (u : Upload) → uploadInRange kind (lengthOf (m .shown) kind) u ≡ true → InTurn u → Kept (onTimer u m now kind)
   unfolding onTimer
-  timer-kept idle e = f
-  timer-kept (running r) e =
-      let h = run-ranged kind r e in
+  timer-kept idle e turn = f
+  timer-kept (running r) e turn =
       either Kept (ltb (elapsed now (r .started)) expiryMs) (λ t. f)
       (λ t. either Kept (ltb (r .repeats) maxRepeats)
-      (λ few. running-kept (record { station = r .station; count = r .count; taken = r .taken; started = now; repeats = r .repeats + 1 })
-      (let below : r .repeats < maxRepeats = ltb-true (r .repeats) maxRepeats few in
-      record { some = h .some; most = h .most; next = h .next; repeats = omega arith }))
+      (λ few. let h = run-ranges kind (lengthOf (m .shown) kind) r e in
+      let below : r .repeats < maxRepeats = ltb-true (r .repeats) maxRepeats few in
+      running-kept (record { station = r .station; task = r .task; next = r .next; taken = r .taken; started = now; repeats = r .repeats + 1 })
+      (record { most = h .most; task = h .task }) (omega arith) turn)
       (λ t. ended-kept))
 
   ack-kept : (result : ℕ) → Kept (onAck m from kind result)
@@ -134,10 +148,11 @@ message-kept m f from now kind r = either Kept (kindOk kind r) (go r) (λ t. f)
     go (chooses seq) k = either Kept (ltb seq (lengthOf (m .shown) flight)) (λ below. choose-formed m seq below f) (λ t. f)
     go asksList k = f
     go (announces n) k = count-kept m f from now kind k n
+    go (changes start end) k = part-kept m f from now kind k start end
     go clears k = either Kept (anyOthers m from (covered kind)) (λ t. f) (λ t. empty-formed m (covered kind) (covered-known kind k) f)
     go (acknowledges result) k = any-ack-kept m f from kind result
     go (asksItem seq) k = either Kept (ltb seq (lengthOf (m .shown) kind)) (λ t. f) (λ t. f)
-    go (brings item) k = item-kept m f from now kind k (uploadOf m kind) (f .upload kind k) item
+    go (brings item) k = item-kept m f from now kind k (uploadOf m kind) (f .upload kind k) (f .turn kind k) item
 
 -- an expiry that is heard is of a known kind
 abbrev pub HeardKnown : Heard → Type 0
@@ -156,6 +171,7 @@ module _ (own from : Station) (now : ℕ) where
   message-known (setCurrent to seq) = for-us-known to flight (chooses seq)
   message-known (requestList to kind) = for-us-known to kind asksList
   message-known (count to n kind planNumber) = for-us-known to kind (announces n)
+  message-known (partialList to start end kind) = for-us-known to kind (changes start end)
   message-known (clearAll to kind) = for-us-known to kind clears
   message-known (ack to result kind planNumber) = for-us-known to kind (acknowledges result)
   message-known (requestInt to seq kind) = for-us-known to kind (asksItem seq)
@@ -181,7 +197,7 @@ act-kept : (m : Model) → Formed m → (h : Heard) → HeardKnown h → Kept (a
 unfolding act
 act-kept m f (refuses outcome) k = f
 act-kept m f (request from now kind r) k = message-kept m f from now kind r
-act-kept m f (expiry now kind) k = timer-kept m f (record { system = 0; component = 0 }) now kind k (uploadOf m kind) (f .upload kind k)
+act-kept m f (expiry now kind) k = timer-kept m f (record { system = 0; component = 0 }) now kind k (uploadOf m kind) (f .upload kind k) (f .turn kind k)
 act-kept m f commandDone k = advance-formed m f
 
 -- every call keeps the ranges

@@ -52,7 +52,7 @@ result-of-requires c κs = search needs
 
 returns-3 : tie.Need-returns-3
 returns-3 c =
-    let turn = c .before .before .before in
+    let turn = c .before .before in
     let own = turn .before .before .before in
     fails _ _ _ _ _ _ _ (own .before .is-from .ensures) _ (own .if1 .left) (turn .if2 .left) (c .before .result-of .ensures) (c .if3 .taken)
 

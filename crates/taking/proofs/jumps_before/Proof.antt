@@ -1,16 +1,16 @@
 -- By the test.
 use mathlib.Core.Path.{_≡_}
-use mathlib.Core.Bool.{Bool, true, false, cond}
+use mathlib.Core.Bool.{Bool, true, false, not, cond, _&&_}
 use Prim.Native.Nat.{ℕ}
 use borrow.Author.Needs.{needs}
 use Rattle.taking.proofs.jumps_before.Statement.{statement}
 use Rattle.taking.proofs.jumps_before.Tie as tie
 
-module _ (jumps n : ℕ) (b is : Bool) (e : b ≡ is) where
-  counted : b ≡ true → n ≡ jumps → n ≡ cond is jumps 0
+module _ (jumps n : ℕ) (b is partial : Bool) (e : b ≡ is) where
+  counted : (b && not partial) ≡ true → n ≡ jumps → n ≡ cond (is && not partial) jumps 0
   counted jump en = simp (← e, jump, en)
 
-  uncounted : b ≡ false → 0 ≡ cond is jumps 0
+  uncounted : (b && not partial) ≡ false → 0 ≡ cond (is && not partial) jumps 0
   uncounted other = simp (← e, other)
 
 is-jump-requires : tie.Need-is-jump-requires

@@ -16,10 +16,10 @@ use Rattle.rule_laws.specs.Words.{length-wordsOf}
 use Rattle.places.specs.Places.{words-lawful}
 use Rattle.upload.specs.declared.Say.the-variants.{Ack, Ask}
 use Rattle.upload.specs.declared.Turned.{Turned}
-use Rattle.upload.specs.Turns.{ended, keeps, moves, TurnAndStore, turnWith, stored, validItemTurned, itemTurned}
+use Rattle.upload.specs.Turns.{ended, keeps, moves, TurnAndStore, turnWith, validItemTurned, itemTurned}
 use Rattle.taking.specs.declared.Judged.{Judged}
 use Rattle.taking.specs.declared.Judged.the-variants.{Refused, OutOfTurn, Invalid, Valid}
-use Rattle.taking.specs.Judging.{InRange, judgedAs, turnedAs, turned-judged, valid-running, valid-store, running-in-range}
+use Rattle.taking.specs.Judging.{InRange, judgedAs, turnedAs, turned-judged, valid-running, running-in-range, next-within}
 use borrow.Author.Needs.{needs}
 use Rattle.taking.proofs.take_item.Statement.{statement}
 use Rattle.taking.proofs.take_item.Tie as tie
@@ -43,21 +43,18 @@ module _ (s : Store) (kind : ℕ) (p : Plan) (from : Station) (now : ℕ) (item 
   unfolding turnedAs
   fails result q t e eq et = rw (et, eq) (as-judged (Invalid result) e)
 
-  passes : (r : Run) (t : Turned) (s′ : Store) → j ≡ Valid r → s′ ≡ putAt words s (not (p .half)) kind (r .next) (wordsOf item)
-      → t ≡ validItemTurned words s′ kind p r now .turned → turnWith t s′ ≡ step
+  passes : (r : Run) (t : Turned) (s′ s″ : Store) → j ≡ Valid r → s′ ≡ putAt words s (not (p .half)) kind (r .next) (wordsOf item)
+      → turnWith t s″ ≡ validItemTurned words s′ kind p r now → turnWith t s″ ≡ step
   unfolding turnedAs
-  passes r t s′ e es et =
-      rw (et, es)
-      (ap (turnWith (validItemTurned words (stored words s kind p r item) kind p r now .turned)) (sym (valid-store (stored words s kind p r item) kind p r now))
-      ∙ as-judged (Valid r) e)
+  passes r t s′ s″ e es et = et ∙ ap (λ (x : Store). validItemTurned words x kind p r now) es ∙ as-judged (Valid r) e
 
   -- the upload's place is in the store, and the store keeps its length
-  module _ (ranged : uploadRanged (sizeOf kind) (p .upload) ≡ true) where
-    in-range : (r : Run) → j ≡ Valid r → InRange (sizeOf kind) r
-    in-range r e = running-in-range (sizeOf kind) (p .upload) r ranged (valid-running s kind (p .upload) p from item r (sym is ∙ e))
+  module _ (ranged : uploadRanged (sizeOf kind) (p .len) (p .upload) ≡ true) where
+    in-range : (r : Run) → j ≡ Valid r → InRange (sizeOf kind) (p .len) r
+    in-range r e = running-in-range (sizeOf kind) (p .len) (p .upload) r ranged (valid-running s kind (p .upload) p from item r (sym is ∙ e))
 
     place : (r : Run) (k : ℕ) → j ≡ Valid r → k ≤ r .next → k < sizeOf kind
-    place r k e upto = let known = in-range r e in omega arith
+    place r k e upto = let below = next-within (sizeOf kind) (p .len) r (in-range r e) in omega arith
 
     long : (k : ℕ) (s′ : Store) → k < sizeOf kind → storeWords ≤ length s → kind ≤ rally
         → s′ ≡ putAt words s (not (p .half)) kind k (wordsOf item) → storeWords ≤ length s′
@@ -96,7 +93,7 @@ keep-requires : tie.Need-keep-requires
 keep-requires c κs = search (place, needs)
 
 valid-turn-requires : tie.Need-valid-turn-requires
-valid-turn-requires c κs = (search (long, place, needs), search (in-range, needs))
+valid-turn-requires c κs = (search (long, place, needs), search needs, search (in-range, needs))
 
 same-length : tie.Need-same-length
 same-length c = search needs

@@ -1,43 +1,49 @@
--- By the tests on the way to each return. Every test decides one `cond` of `validItemTurned`.
+-- By the test whether the item is the last.
 use mathlib.Core.Path.{_≡_, _∙_, sym, ap}
-use mathlib.Core.Bool.{Bool, true, false, not}
-use Prim.Native.Nat.{ℕ, _+_}
+use Prim.Native.Nat.{ℕ, _+_, _≤_}
+use native.Mathlib.Omega.{arith}
 use borrow.Author.Tests.{eq-eqb, ne-eqb}
-use Rattle.rules.specs.Limits.{accepted, invalid}
-use Rattle.rules.specs.Model.{wholeOk}
 use Rattle.plan.specs.declared.Plan.{Plan}
 use Rattle.plan.specs.declared.Run.{Run}
 use Rattle.plan.specs.declared.Upload.the-variants.{Running}
-use Rattle.places.specs.Forms.{Store, words, itemsIn}
-use Rattle.upload.specs.declared.Say.the-variants.{Ack, Ask}
+use Rattle.places.specs.Forms.{Store, words}
+use Rattle.upload.specs.declared.Say.the-variants.{Ask}
 use Rattle.upload.specs.declared.Turned.{Turned}
-use Rattle.upload.specs.Turns.{withUpload, ended, replaced, oneMore, moves, renews, TurnAndStore, turnWith, validItemTurned}
+use Rattle.upload.specs.Turns.{withUpload, oneMore, moves, turnWith, settled, lastTurned, validItemTurned}
+use Rattle.taking.specs.Judging.{InRange}
 use borrow.Author.Needs.{needs}
 use Rattle.taking.proofs.valid_turn.Statement.{statement}
 use Rattle.taking.proofs.valid_turn.Tie as tie
 
-module _ (s : Store) (kind : ℕ) (p : Plan) (r : Run) (now : ℕ) where
-  turns : (t u : Turned) → t ≡ u → validItemTurned words s kind p r now ≡ turnWith u s → t ≡ validItemTurned words s kind p r now .turned
-  turns t u e is = e ∙ ap (λ (k : TurnAndStore). k .turned) (sym is)
-
-  asks : (q : Plan) (t : Turned) → (r .next + 1 ≡ r .count → ⊥) → q ≡ withUpload p (Running (oneMore r now)) → t ≡ moves q (Ask (r .next + 1))
-      → t ≡ validItemTurned words s kind p r now .turned
+module _ (s : Store) (kind : ℕ) (p : Plan) (r : Run) (now : ℕ) (t : Turned) where
+  completes : (s′ : Store) → r .next ≡ r .last → turnWith t s′ ≡ turnWith (lastTurned words (settled words s kind p r) kind p r) (settled words s kind p r)
+      → turnWith t s′ ≡ validItemTurned words s kind p r now
   unfolding validItemTurned
-  asks q t more eq et = turns t _ (rw eq at et) (simp (ne-eqb (r .next + 1) (r .count) more))
+  completes s′ last e = simp (eq-eqb (r .next) (r .last) last, e)
 
-  module _ (b : Bool) (is : b ≡ wholeOk kind (itemsIn words s (not (p .half)) kind (r .count))) where
-    replaces : (q : Plan) (t : Turned) → r .next + 1 ≡ r .count → b ≡ true → q ≡ replaced p (r .count) → t ≡ renews q (Ack accepted (q .number))
-        → t ≡ validItemTurned words s kind p r now .turned
-    unfolding validItemTurned
-    replaces q t last e eq et = turns t _ (rw eq at et) (simp (eq-eqb (r .next + 1) (r .count) last, ← is, e))
+  asks : (q : Plan) → (r .next ≡ r .last → ⊥) → q ≡ withUpload p (Running (oneMore r now)) → t ≡ moves q (Ask (r .next + 1))
+      → turnWith t s ≡ validItemTurned words s kind p r now
+  unfolding validItemTurned
+  asks q more eq et = simp (ne-eqb (r .next) (r .last) more, et, eq)
 
-    fails : (q : Plan) (t : Turned) → r .next + 1 ≡ r .count → b ≡ false → q ≡ ended p → t ≡ moves q (Ack invalid 0)
-        → t ≡ validItemTurned words s kind p r now .turned
-    unfolding validItemTurned
-    fails q t last e eq et = turns t _ (rw eq at et) (simp (eq-eqb (r .next + 1) (r .count) last, ← is, e))
+-- the number behind the next is at most the count
+next-room : (size len : ℕ) (r : Run) → InRange size len r → r .next + 1 ≤ r .count
+next-room size len r h =
+    let a = h .task .upto in
+    let b = h .task .inside in
+    omega arith
+
+last-turn-requires : tie.Need-last-turn-requires
+last-turn-requires c κs = search needs
+
+same-length : tie.Need-same-length
+same-length c = search needs
+
+returns : tie.Need-returns
+returns c = search (completes, needs)
 
 add-next : tie.Need-add-next
-add-next c = search needs
+add-next c = search (next-room, needs)
 
 with-upload-requires : tie.Need-with-upload-requires
 with-upload-requires c κs = search needs
@@ -45,42 +51,8 @@ with-upload-requires c κs = search needs
 moves-requires : tie.Need-moves-requires
 moves-requires c κs = search needs
 
-returns : tie.Need-returns
-returns c = search (asks, needs)
-
-whole-ok-requires : tie.Need-whole-ok-requires
-whole-ok-requires c κs = search needs
-
-replaced-requires : tie.Need-replaced-requires
-replaced-requires c κs = search needs
-
-renews-requires : tie.Need-renews-requires
-renews-requires c κs = search needs
-
 returns-2 : tie.Need-returns-2
-returns-2 c = search (replaces, needs)
-
-ended-requires : tie.Need-ended-requires
-ended-requires c κs = search needs
-
-moves-requires-2 : tie.Need-moves-requires-2
-moves-requires-2 c κs = search needs
-
-returns-3 : tie.Need-returns-3
-returns-3 c = search (fails, needs)
+returns-2 c = search (asks, needs)
 
 pub valid-turn-spec : {M : Type 1} → statement M
-valid-turn-spec =
-    tie.close
-    (tie.spec
-    add-next
-    with-upload-requires
-    moves-requires
-    returns
-    whole-ok-requires
-    replaced-requires
-    renews-requires
-    returns-2
-    ended-requires
-    moves-requires-2
-    returns-3)
+valid-turn-spec = tie.close (tie.spec last-turn-requires same-length returns add-next with-upload-requires moves-requires returns-2)
