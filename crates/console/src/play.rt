@@ -213,7 +213,7 @@ pub fn other(
     match kind {
         script::DONE => done(r, out, at, store, state),
         script::DUMP => {
-            let at = dump::put_dump(out, at, state, store);
+            let at = dump::put_dump(out, at, r.b4, state, store);
             Played { state, at }
         }
         script::CMP => {

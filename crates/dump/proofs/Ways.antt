@@ -1,8 +1,9 @@
 -- The lines of a dump, part by part.
-use Prim.Native.Nat.{ℕ, _*_}
-use mathlib.Core.Path.{_≡_, subst}
+use Prim.Native.Nat.{ℕ, _*_, _%_}
+use mathlib.Core.Path.{_≡_, refl, subst}
 use mathlib.Core.Bool.{Bool, true, false, not}
 use mathlib.Core.List.{List, [], _∷_}
+use lib.Dec.{eqb}
 use mir.Val.{boolByte}
 use Rattle.rules.specs.Limits.{flight, fence, rally, outOfRange}
 use Rattle.rules.specs.Model.{inRange}
@@ -14,12 +15,16 @@ use Rattle.adding.specs.Laws.{adds-both}
 use Rattle.text.specs.Digits.{digit, decimalIn, spaced}
 use Rattle.rows.specs.Rows.{begun, row}
 use Rattle.dump.specs.Plans.{kindText}
-use Rattle.dump.proofs.PlanWays.{flag-byte}
-use Rattle.dump.specs.Dumps.{currentLine, stateText, dumpText}
+use Rattle.dump.specs.Dumps.{flag, currentLine, stateText, dumpText}
 
-module _ (st : State) (store : Store) (ranged : Bool) (is : ranged ≡ inRange (view st store)) where
+-- a flag is shown as the byte that the code holds it in
+flag-byte : (b : Bool) → boolByte b ≡ flag b
+flag-byte true = refl
+flag-byte false = refl
+
+module _ (options : ℕ) (st : State) (store : Store) (ranged : Bool) (is : ranged ≡ inRange (view st store)) where
   pub out-of-range
-      : (before after : List ℕ) (at r : ℕ) → ranged ≡ false → Adds (row 68 (outOfRange * boolByte (not ranged) ∷ [])) before at after r → Adds (dumpText st store) before at after r
+      : (before after : List ℕ) (at r : ℕ) → ranged ≡ false → Adds (row 68 (outOfRange * boolByte (not ranged) ∷ [])) before at after r → Adds (dumpText options st store) before at after r
   unfolding dumpText each decimalIn digit
   out-of-range before after at r e adds =
       let fifteen : Adds (row 68 (15 ∷ [])) before at after r = subst (λ (b : Bool). Adds (row 68 (outOfRange * boolByte (not b) ∷ [])) before at after r) e adds in
@@ -29,8 +34,8 @@ module _ (st : State) (store : Store) (ranged : Bool) (is : ranged ≡ inRange (
       : (before between after : List ℕ) (at i r : ℕ)
       → ranged ≡ true
       → Adds (row 68 (outOfRange * boolByte (not ranged) ∷ [])) before at between i
-      → Adds (stateText st store) between i after r
-      → Adds (dumpText st store) before at after r
+      → Adds (stateText (eqb (options % 2) 0) st store) between i after r
+      → Adds (dumpText options st store) before at after r
   unfolding dumpText each decimalIn digit
   in-range before between after at i r e a b =
       let none : Adds (row 68 (0 ∷ [])) before at between i = subst (λ (b : Bool). Adds (row 68 (outOfRange * boolByte (not b) ∷ [])) before at between i) e a in
@@ -47,11 +52,11 @@ module _ (before second third after : List ℕ) (at i j r : ℕ) where
   current-line current isBegun counts a b c = rw (← flag-byte isBegun) (adds-both a (adds-both b c))
 
 pub state-text
-    : (st : State) (store : Store) (before second third fourth after : List ℕ) (at i j k r : ℕ)
-    → Adds (kindText flight (planOf st flight) store) before at second i
-    → Adds (kindText fence (planOf st fence) store) second i third j
-    → Adds (kindText rally (planOf st rally) store) third j fourth k
+    : (halves : Bool) (st : State) (store : Store) (before second third fourth after : List ℕ) (at i j k r : ℕ)
+    → Adds (kindText halves flight (planOf st flight) store) before at second i
+    → Adds (kindText halves fence (planOf st fence) store) second i third j
+    → Adds (kindText halves rally (planOf st rally) store) third j fourth k
     → Adds (currentLine (st .current) (st .begun) (st .counts)) fourth k after r
-    → Adds (stateText st store) before at after r
+    → Adds (stateText halves st store) before at after r
 unfolding stateText
-state-text st store before second third fourth after at i j k r a b c d = adds-both a (adds-both b (adds-both c d))
+state-text halves st store before second third fourth after at i j k r a b c d = adds-both a (adds-both b (adds-both c d))

@@ -1,7 +1,8 @@
 -- The lines of a dump. "DUMP prints `D 15` alone if a number of the state is out of its range. Otherwise: .."
-use Prim.Native.Nat.{ℕ}
+use Prim.Native.Nat.{ℕ, _%_}
 use mathlib.Core.Bool.{Bool, cond}
 use mathlib.Core.List.{List, [], _∷_, _++_}
+use lib.Dec.{eqb}
 use Rattle.rules.specs.Limits.{flight, fence, rally}
 use Rattle.rules.specs.Payload.{Bytes}
 use Rattle.rules.specs.Model.{inRange}
@@ -11,18 +12,22 @@ use Rattle.plan.specs.View.{planOf, view}
 use Rattle.text.specs.Words.{ascii}
 use Rattle.text.specs.Digits.{spaced}
 use Rattle.rows.specs.Rows.{begun}
-use Rattle.dump.specs.Plans.{flag, kindText}
+use Rattle.dump.specs.Plans.{kindText}
+
+abbrev pub flag : Bool → ℕ
+flag b = cond b 1 0
 
 -- "`c CURRENT BEGUN C0 C1 .. C14`"
 unfoldable pub currentLine : (current : ℕ) (begun : Bool) (counts : List ℕ) → Bytes
 currentLine current isBegun counts = begun 99 (current ∷ flag isBegun ∷ []) ++ (spaced counts ++ ascii "\n")
 
-unfoldable pub stateText : State → Store → Bytes
-stateText st store =
-    kindText flight (planOf st flight) store
-    ++ (kindText fence (planOf st fence) store
-    ++ (kindText rally (planOf st rally) store
+unfoldable pub stateText : (halves : Bool) → State → Store → Bytes
+stateText halves st store =
+    kindText halves flight (planOf st flight) store
+    ++ (kindText halves fence (planOf st fence) store
+    ++ (kindText halves rally (planOf st rally) store
     ++ currentLine (st .current) (st .begun) (st .counts)))
 
-unfoldable pub dumpText : State → Store → Bytes
-dumpText st store = cond (inRange (view st store)) (ascii "D 0\n" ++ stateText st store) (ascii "D 15\n")
+-- "Bit 0 of DUMP's b4 set: HALF is printed as `-`" (M-108): the options are that byte
+unfoldable pub dumpText : (options : ℕ) → State → Store → Bytes
+dumpText options st store = cond (inRange (view st store)) (ascii "D 0\n" ++ stateText (eqb (options % 2) 0) st store) (ascii "D 15\n")

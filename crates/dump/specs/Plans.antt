@@ -1,5 +1,5 @@
 -- The lines of a dump that tell a kind's plan and upload, and the items of both.
-use Prim.Native.Nat.{ℕ, zero, suc}
+use Prim.Native.Nat.{ℕ, zero, suc, _+_, _-_}
 use mathlib.Core.Bool.{Bool, not, cond}
 use mathlib.Core.List.{[], _∷_, _++_}
 use Rattle.rules.specs.Payload.{Bytes}
@@ -16,28 +16,35 @@ use Rattle.rows.specs.Rows.{begun, row, line}
 abbrev pub itemLine : (letter kind n : ℕ) → Bytes → Bytes
 itemLine letter kind n bytes = line (letter ∷ []) (kind ∷ n ∷ []) (ascii " ") bytes (ascii "\n")
 
--- the lines of the first n items of a kind in a half
-unfoldable pub itemLines : (letter kind : ℕ) (half : Bool) → Store → (n : ℕ) → Bytes
-itemLines letter kind half store zero = []
-itemLines letter kind half store (suc n) = itemLines letter kind half store n ++ itemLine letter kind n (itemAt words store half kind n)
+-- the lines of n items of a kind in a half, from a number on
+unfoldable pub itemLines : (letter kind : ℕ) (half : Bool) → Store → (from n : ℕ) → Bytes
+itemLines letter kind half store from zero = []
+itemLines letter kind half store from (suc n) = itemLines letter kind half store from n ++ itemLine letter kind (from + n) (itemAt words store half kind (from + n))
 
-abbrev pub flag : Bool → ℕ
-flag b = cond b 1 0
+-- (M-108) "A partial upload's line in DUMP is `u K SYSTEM COMPONENT COUNT NEXT START REPEATS P FIRST LAST` (P is the letter) .. A whole upload's line does not change."
+unfoldable pub partText : (partial : Bool) (first last : ℕ) → Bytes
+partText partial first last = cond partial (ascii " " ++ row 80 (first ∷ last ∷ [])) (ascii "\n")
 
 -- "`u K -` (no upload) or `u K SYSTEM COMPONENT COUNT NEXT START REPEATS`"
 unfoldable pub uploadLine : (kind : ℕ) → Upload → Bytes
 uploadLine kind Idle = begun 117 (kind ∷ []) ++ ascii " -\n"
-uploadLine kind (Running r) = row 117 (kind ∷ r .system ∷ r .component ∷ r .count ∷ r .next ∷ r .started ∷ r .repeats ∷ [])
+uploadLine kind (Running r) =
+    begun 117 (kind ∷ r .system ∷ r .component ∷ r .count ∷ r .next ∷ r .started ∷ r .repeats ∷ []) ++ partText (r .partial) (r .first) (r .last)
 
--- how many items an upload has brought
-unfoldable pub brought : Upload → ℕ
-brought Idle = 0
-brought (Running r) = r .next
+-- "its `w` lines run from FIRST to NEXT - 1" (M-108); a whole upload's first number is 0
+unfoldable pub broughtLines : (kind : ℕ) (half : Bool) → Upload → Store → Bytes
+broughtLines kind half Idle store = []
+broughtLines kind half (Running r) store = itemLines 119 kind half store (r .first) (r .next - r .first)
+
+-- a plan's half, or a mark in its place
+unfoldable pub halfMark : (halves half : Bool) → Bytes
+halfMark halves half = cond halves (cond half (ascii " 1\n") (ascii " 0\n")) (ascii " -\n")
 
 -- "`k K LENGTH NUMBER SHOWN HALF`", and the upload's line
-unfoldable pub planLine : (kind : ℕ) → Plan → Bytes
-planLine kind p = row 107 (kind ∷ p .len ∷ p .number ∷ shownNumber (p .len) (p .number) ∷ flag (p .half) ∷ []) ++ uploadLine kind (p .upload)
+unfoldable pub planLine : (halves : Bool) (kind : ℕ) → Plan → Bytes
+planLine halves kind p =
+    begun 107 (kind ∷ p .len ∷ p .number ∷ shownNumber (p .len) (p .number) ∷ []) ++ (halfMark halves (p .half) ++ uploadLine kind (p .upload))
 
 -- the items follow: `i` those of the plan, `w` those that the upload has brought, in the other half
-unfoldable pub kindText : (kind : ℕ) → Plan → Store → Bytes
-kindText kind p store = planLine kind p ++ (itemLines 105 kind (p .half) store (p .len) ++ itemLines 119 kind (not (p .half)) store (brought (p .upload)))
+unfoldable pub kindText : (halves : Bool) (kind : ℕ) → Plan → Store → Bytes
+kindText halves kind p store = planLine halves kind p ++ (itemLines 105 kind (p .half) store 0 (p .len) ++ broughtLines kind (not (p .half)) (p .upload) store)

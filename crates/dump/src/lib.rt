@@ -31,13 +31,13 @@ fn put_current(
     text::put_byte(out, end, b'\n')
 }
 
-fn put_state(out: &mut [u8], at: usize, state: State, store: &[u32]) -> usize
-    ensures { λ r. ⌜ Adds (stateText state (now (store .entry))) (now (out .entry)) at (now (out .exit)) r ⌝ }
+fn put_state(out: &mut [u8], at: usize, halves: bool, state: State, store: &[u32]) -> usize
+    ensures { λ r. ⌜ Adds (stateText halves state (now (store .entry))) (now (out .entry)) at (now (out .exit)) r ⌝ }
 {
     let plans = state.plans;
-    let end = put_kind(out, at, FLIGHT, plans[0], store);
-    let end = put_kind(out, end, FENCE, plans[1], store);
-    let end = put_kind(out, end, RALLY, plans[2], store);
+    let end = put_kind(out, at, halves, FLIGHT, plans[0], store);
+    let end = put_kind(out, end, halves, FENCE, plans[1], store);
+    let end = put_kind(out, end, halves, RALLY, plans[2], store);
     let counts = state.counts;
     put_current(out, end, state.current, state.begun, counts)
 }
@@ -52,14 +52,14 @@ fn in_range(state: State) -> bool
     ranges::ranged(flight, fence, rally, state.current, &state.counts)
 }
 
-// The whole dump; outcome 15 alone where a number of the state is out of its range.
-pub fn put_dump(out: &mut [u8], at: usize, state: State, store: &[u32]) -> usize
-    ensures { λ r. ⌜ Adds (dumpText state (now (store .entry))) (now (out .entry)) at (now (out .exit)) r ⌝ }
+// The whole dump; outcome 15 alone where a number of the state is out of its range. With the lowest bit of the options set no halves are told.
+pub fn put_dump(out: &mut [u8], at: usize, options: u8, state: State, store: &[u32]) -> usize
+    ensures { λ r. ⌜ Adds (dumpText options state (now (store .entry))) (now (out .entry)) at (now (out .exit)) r ⌝ }
 {
     let ranged = in_range(state);
     let end = rows::put_row(out, at, b'D', &[OUT_OF_RANGE as u64 * (!ranged) as u64]);
     if !ranged {
         return end;
     }
-    put_state(out, end, state, store)
+    put_state(out, end, options % 2 == 0, state, store)
 }

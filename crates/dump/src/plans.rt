@@ -1,10 +1,11 @@
 // The lines of one kind in a dump: its plan, its upload, and the items of both.
 ghost use mathlib.Core.Path.{_≡_};
+ghost use Prim.Native.Nat.{_-_};
 ghost use lib.ListN.{getD};
 ghost use Rattle.rules.specs.Messages.{itemOf};
 ghost use Rattle.rules.specs.Words.{itemOfWords};
 ghost use Rattle.adding.specs.Added.{Adds};
-ghost use Rattle.dump.specs.Plans.{itemLine, itemLines, brought as Plans·brought, uploadLine, planLine, kindText};
+ghost use Rattle.dump.specs.Plans.{itemLine, itemLines, broughtLines, partText, uploadLine, halfMark, planLine, kindText};
 use limits::ITEM_BYTES;
 use limits::ITEM_WORDS;
 use plan::Plan;
@@ -47,27 +48,56 @@ fn put_item(out: &mut [u8], at: usize, letter: u8, kind: u8, n: u16, bytes: &[u8
     rows::put_line(out, at, &[letter], &list, b" ", bytes, b"\n")
 }
 
-// The items of a kind in a half, up to a number.
+// The items of a kind in a half, from one number up to another.
 fn put_items(
     out: &mut [u8],
     at: usize,
     letter: u8,
     kind: u8,
     half: bool,
-    count: u16,
+    from: u16,
+    to: u16,
     store: &[u32],
 ) -> usize
-    ensures { λ r. ⌜ Adds (itemLines letter kind half (now (store .entry)) count) (now (out .entry)) at (now (out .exit)) r ⌝ }
+    ensures { λ r. ⌜ Adds (itemLines letter kind half (now (store .entry)) from (to - from)) (now (out .entry)) at (now (out .exit)) r ⌝ }
 {
     let mut end = text::within(at, out);
-    let mut n: u16 = 0;
-    while n < count {
-        let first = places::place_at(kind, half, n);
-        let bytes = stored_item(text::part_words(store, first, ITEM_WORDS), kind, n);
+    let mut n = from;
+    while n < to {
+        let place = places::place_at(kind, half, n);
+        let bytes = stored_item(text::part_words(store, place, ITEM_WORDS), kind, n);
         end = put_item(out, end, letter, kind, n, &bytes);
         n += 1;
     }
     end
+}
+
+// The items that an upload has brought, which stand in a half.
+fn put_brought(
+    out: &mut [u8],
+    at: usize,
+    kind: u8,
+    half: bool,
+    upload: Upload,
+    store: &[u32],
+) -> usize
+    ensures { λ r. ⌜ Adds (broughtLines kind half upload (now (store .entry))) (now (out .entry)) at (now (out .exit)) r ⌝ }
+{
+    match upload {
+        Upload::Idle => text::within(at, out),
+        Upload::Running(run) => put_items(out, at, b'w', kind, half, run.first, run.next, store),
+    }
+}
+
+// What an upload's line ends with: of a partial one the first and the last number that it brings.
+fn put_part(out: &mut [u8], at: usize, partial: bool, first: u16, last: u16) -> usize
+    ensures { λ r. ⌜ Adds (partText partial first last) (now (out .entry)) at (now (out .exit)) r ⌝ }
+{
+    if partial {
+        let end = text::put_byte(out, at, b' ');
+        return rows::put_row(out, end, b'P', &[first as u64, last as u64]);
+    }
+    text::put_byte(out, at, b'\n')
 }
 
 fn put_upload(out: &mut [u8], at: usize, kind: u8, upload: Upload) -> usize
@@ -88,42 +118,54 @@ fn put_upload(out: &mut [u8], at: usize, kind: u8, upload: Upload) -> usize
                 run.started as u64,
                 run.repeats as u64,
             ];
-            rows::put_row(out, at, b'u', &list)
+            let end = rows::put_begun(out, at, b'u', &list);
+            put_part(out, end, run.partial, run.first, run.last)
         }
     }
 }
 
-// How many items an upload has brought.
-fn brought(upload: Upload) -> u16
-    ensures { λ r. ⌜ r ≡ Plans·brought upload ⌝ }
+// What a plan's line ends with: its half, or a mark in its place.
+fn half_mark(halves: bool, half: bool) -> [u8; 3]
+    ensures { λ r. ⌜ r ≡ halfMark halves half ⌝ }
 {
-    match upload {
-        Upload::Idle => 0,
-        Upload::Running(run) => run.next,
+    if !halves {
+        return *b" -\n";
     }
+    if half {
+        return *b" 1\n";
+    }
+    *b" 0\n"
 }
 
-fn put_plan(out: &mut [u8], at: usize, kind: u8, plan: Plan) -> usize
-    ensures { λ r. ⌜ Adds (planLine kind plan) (now (out .entry)) at (now (out .exit)) r ⌝ }
+fn put_plan(out: &mut [u8], at: usize, halves: bool, kind: u8, plan: Plan) -> usize
+    ensures { λ r. ⌜ Adds (planLine halves kind plan) (now (out .entry)) at (now (out .exit)) r ⌝ }
 {
     let list = [
         kind as u64,
         plan.len as u64,
         plan.number as u64,
         plan::number_shown(plan) as u64,
-        plan.half as u64,
     ];
-    let end = rows::put_row(out, at, b'k', &list);
+    let end = rows::put_begun(out, at, b'k', &list);
+    let mark = half_mark(halves, plan.half);
+    let end = text::put(out, end, &mark);
     let upload = plan.upload;
     put_upload(out, end, kind, upload)
 }
 
 // The plan of a kind, its upload, and the items of both.
-pub fn put_kind(out: &mut [u8], at: usize, kind: u8, plan: Plan, store: &[u32]) -> usize
-    ensures { λ r. ⌜ Adds (kindText kind plan (now (store .entry))) (now (out .entry)) at (now (out .exit)) r ⌝ }
+pub fn put_kind(
+    out: &mut [u8],
+    at: usize,
+    halves: bool,
+    kind: u8,
+    plan: Plan,
+    store: &[u32],
+) -> usize
+    ensures { λ r. ⌜ Adds (kindText halves kind plan (now (store .entry))) (now (out .entry)) at (now (out .exit)) r ⌝ }
 {
     let upload = plan.upload;
-    let end = put_plan(out, at, kind, plan);
-    let end = put_items(out, end, b'i', kind, plan.half, plan.len, store);
-    put_items(out, end, b'w', kind, !plan.half, brought(upload), store)
+    let end = put_plan(out, at, halves, kind, plan);
+    let end = put_items(out, end, b'i', kind, plan.half, 0, plan.len, store);
+    put_brought(out, end, kind, !plan.half, upload, store)
 }

@@ -15,11 +15,11 @@ use Rattle.plan.specs.declared.Upload.the-variants.{Idle, Running}
 use Rattle.places.specs.Forms.{words, offsetOf}
 use Rattle.plan.specs.View.{emptyPlan, planOf}
 use Rattle.host.specs.Items.{itemWord}
-use Rattle.host.specs.Pokes.{pokedRun, pokedUpload, pokedPlan, pokedPlans, pokedCounts, pokedState}
+use Rattle.host.specs.Pokes.{pokedRun, started, pokedUpload, pokedPlan, pokedPlans, pokedCounts, pokedState}
 
 module _ (u : Upload) (field v : ℕ) where
   module _ (idle : u ≡ Idle) where
-    pub starts : (eqb field 3 && not (eqb v 0)) ≡ true → Running (record { system = 0; component = 0; count = 0; next = 0; started = 0; repeats = 0 }) ≡ pokedUpload u field v
+    pub starts : (eqb field 3 && not (eqb v 0)) ≡ true → started ≡ pokedUpload u field v
     unfolding pokedUpload
     starts e = rw (idle, e)
 

@@ -47,9 +47,10 @@ recordIn p =
       reply = numberAt 4 20 p;
     }
 
--- POKE: fields 0 to 9 are numbers of a plan, 10 and 11 of the state, 12 a jump count
+-- POKE: fields 0 to 9 and 13 to 15 are numbers of a plan or of its upload, 10 and 11 of the state, 12 a jump count
 unfoldable pub pokeFits : (field index : ℕ) → Bool
-pokeFits field index = leb field 9 && ltb index 3 || (eqb field 10 || eqb field 11) && eqb index 0 || eqb field 12 && ltb index maxJumps
+pokeFits field index =
+    (leb field 9 || leb 13 field && leb field 15) && ltb index 3 || (eqb field 10 || eqb field 11) && eqb index 0 || eqb field 12 && ltb index maxJumps
 
 -- WRITE, "a length that is no multiple of 32 (b4 = 1, 2) or of 4 (b4 = 0 ..), a kind above 2, items past the kind's size, or a place past the array:
 -- `? 9`". "b4 = 0 writes from word a; the payload is a row of words"

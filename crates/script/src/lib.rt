@@ -107,7 +107,7 @@ fn record_in(bytes: &[u8]) -> Record
 fn poke_fits(field: u8, index: u8) -> bool
     ensures { λ r. ⌜ r ≡ pokeFits field index ⌝ }
 {
-    (field <= 9) & (index < 3)
+    ((field <= 9) | (13 <= field) & (field <= 15)) & (index < 3)
         | ((field == 10) | (field == 11)) & (index == 0)
         | (field == 12) & ((index as usize) < JUMP_COUNTS)
 }

@@ -12,14 +12,14 @@ use Rattle.dump.proofs.put_dump.Tie as tie
 in-range-requires : tie.Need-in-range-requires
 in-range-requires c κs = search needs
 
-cast-t10 : tie.Need-cast-t10
-cast-t10 c = search needs
+cast-t11 : tie.Need-cast-t11
+cast-t11 c = search needs
 
-cast-t12 : tie.Need-cast-t12
-cast-t12 c = tt
+cast-t13 : tie.Need-cast-t13
+cast-t13 c = tt
 
-mul-t13 : tie.Need-mul-t13
-mul-t13 c = flag-times outOfRange (search needs) (not (c .before .in-range .result))
+mul-t14 : tie.Need-mul-t14
+mul-t14 c = flag-times outOfRange (search needs) (not (c .before .in-range .result))
 
 slice-aggregate-put-row : tie.Need-slice-aggregate-put-row
 slice-aggregate-put-row c = search needs
@@ -35,7 +35,7 @@ returns c =
     let p = c .before .before .before in
     let g = p .before .before .before in
     let a = g .before .before .before .args in
-    out-of-range (a .state) (now (a .store)) (g .in-range .result) (g .in-range .ensures (now (a .store))) _ _ _ _ (not-true _ (c .if1 .taken)) (p .put-row .ensures)
+    out-of-range (a .options) (a .state) (now (a .store)) (g .in-range .result) (g .in-range .ensures (now (a .store))) _ _ _ _ (not-true _ (c .if1 .taken)) (p .put-row .ensures)
 
 put-state-requires : tie.Need-put-state-requires
 put-state-requires c κs = search needs
@@ -50,16 +50,16 @@ returns-2 c =
     let p = i .before .before .before in
     let g = p .before .before .before in
     let a = g .before .before .before .args in
-    in-range (a .state) (now (a .store)) (g .in-range .result) (g .in-range .ensures (now (a .store))) _ _ _ _ _ _ (not-false _ (i .if1 .left)) (p .put-row .ensures) (s .put-state .ensures)
+    in-range (a .options) (a .state) (now (a .store)) (g .in-range .result) (g .in-range .ensures (now (a .store))) _ _ _ _ _ _ (not-false _ (i .if1 .left)) (p .put-row .ensures) (s .put-state .ensures)
 
 pub put-dump-spec : {M : Type 1} → statement M
 put-dump-spec =
     tie.close
     (tie.spec
     in-range-requires
-    cast-t10
-    cast-t12
-    mul-t13
+    cast-t11
+    cast-t13
+    mul-t14
     slice-aggregate-put-row
     put-row-requires
     same-length

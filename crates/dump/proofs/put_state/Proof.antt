@@ -34,7 +34,7 @@ returns c =
     let r = e .before .before .before .before .before in
     let f = r .before .before .before .before .before in
     let g = f .before .before .before .before .before in
-    state-text (g .before .before .before .before .before .before .args .state) _ _ _ _ _ _ _ _ _ _ _ (g .put-kind .ensures) (f .put-kind2 .ensures) (r .put-kind3 .ensures) (e .put-current .ensures)
+    state-text _ (g .before .before .before .before .before .before .args .state) _ _ _ _ _ _ _ _ _ _ _ (g .put-kind .ensures) (f .put-kind2 .ensures) (r .put-kind3 .ensures) (e .put-current .ensures)
 
 pub put-state-spec : {M : Type 1} → statement M
 put-state-spec =

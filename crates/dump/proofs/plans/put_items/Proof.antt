@@ -1,25 +1,24 @@
--- `dump::plans::put_items` meets its contract. The loop's invariant: the lines of the first n items are added.
+-- `dump::plans::put_items` meets its contract. The loop's invariant: the lines of the items before number n are added.
 use Prim.Native.Nat.{_-_, _≤_}
 use borrow.Author.Needs.{needs}
 use Rattle.adding.specs.Added.{Adds}
-use Rattle.adding.specs.Laws.{adds-nothing}
 use Rattle.dump.specs.Plans.{itemLines}
-use Rattle.dump.proofs.PlanWays.{items-more, all-items}
+use Rattle.dump.proofs.PlanWays.{no-items, items-more, all-items}
 use Rattle.dump.proofs.plans.put_items.Statement.{statement}
 use Rattle.dump.proofs.plans.put_items.Tie as tie
 
 abbrev Inv-loop : tie.InvT-loop
-Inv-loop out₀ at letter kind half count store end₀ n₀ out end n = (n ≤ count) × Adds (itemLines letter kind half store n) out₀ at out end
+Inv-loop out₀ at letter kind half from to store end₀ n₀ out end n =
+    (from ≤ n) × ((n - from ≤ to - from) × Adds (itemLines letter kind half store from (n - from)) out₀ at out end)
 
 abbrev μ-loop : tie.MeasureT-loop
-μ-loop out₀ at letter kind half count store end₀ n₀ out end n = count - n
+μ-loop out₀ at letter kind half from to store end₀ n₀ out end n = to - n
 
 within-requires : tie.Need-within-requires Inv-loop μ-loop
 within-requires c κs = search needs
 
 loop-holds : tie.Need-loop-holds Inv-loop μ-loop
-unfolding itemLines
-loop-holds c = search (adds-nothing, needs)
+loop-holds c = (search needs, (search needs, search (no-items, needs)))
 
 place-at-requires : tie.Need-place-at-requires Inv-loop μ-loop
 place-at-requires c κs = search needs
@@ -43,10 +42,10 @@ loop-less : tie.Need-loop-less Inv-loop μ-loop
 loop-less c = search needs
 
 loop-again : tie.Need-loop-again Inv-loop μ-loop
-loop-again c = search (items-more, needs)
+loop-again c = (search needs, (search needs, search (items-more, needs)))
 
 same-length : tie.Need-same-length Inv-loop μ-loop
-same-length c = c .before .loop .inv .1 .room
+same-length c = c .before .loop .inv .1 .1 .room
 
 returns : tie.Need-returns Inv-loop μ-loop
 returns c = search (all-items, needs)

@@ -10,11 +10,8 @@ put-plan-requires c κs = search needs
 put-items-requires : tie.Need-put-items-requires
 put-items-requires c κs = search needs
 
-brought-requires : tie.Need-brought-requires
-brought-requires c κs = search needs
-
-put-items-requires-2 : tie.Need-put-items-requires-2
-put-items-requires-2 c κs = search needs
+put-brought-requires : tie.Need-put-brought-requires
+put-brought-requires c κs = search needs
 
 same-length : tie.Need-same-length
 same-length c = search needs
@@ -22,10 +19,10 @@ same-length c = search needs
 returns : tie.Need-returns
 returns c =
     let w = c .before .before in
-    let i = w .before .before .before .before .before .before in
+    let i = w .before .before .before .before .before in
     let p = i .before .before .before .before in
     let a = p .before .before .before .before .args in
-    kind-text _ _ _ _ _ _ _ _ _ (a .plan) _ (w .before .brought .result) (w .before .brought .ensures) (p .put-plan .ensures) (i .put-items .ensures) (w .put-items2 .ensures)
+    kind-text _ _ _ _ _ _ _ _ _ _ (a .plan) _ (p .put-plan .ensures) (i .put-items .ensures) (w .put-brought .ensures)
 
 pub put-kind-spec : {M : Type 1} → statement M
 put-kind-spec =
@@ -33,7 +30,6 @@ put-kind-spec =
     (tie.spec
     put-plan-requires
     put-items-requires
-    brought-requires
-    put-items-requires-2
+    put-brought-requires
     same-length
     returns)

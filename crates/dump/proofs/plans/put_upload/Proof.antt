@@ -25,29 +25,32 @@ put-requires c κs = tt
 enum-known-upload : tie.Need-enum-known-upload
 enum-known-upload c = search needs
 
-cast-t21 : tie.Need-cast-t21
-cast-t21 c = fits-8-64 (c .struct-known .given .0)
-
 cast-t22 : tie.Need-cast-t22
-cast-t22 c = fits-8-64 (c .struct-known2 .given .1 .0)
+cast-t22 c = fits-8-64 (c .struct-known .given .0)
 
 cast-t23 : tie.Need-cast-t23
-cast-t23 c = fits-16-64 (c .struct-known3 .given .1 .1 .0)
+cast-t23 c = fits-8-64 (c .struct-known2 .given .1 .0)
 
 cast-t24 : tie.Need-cast-t24
-cast-t24 c = fits-16-64 (c .struct-known4 .given .1 .1 .1 .0)
+cast-t24 c = fits-16-64 (c .struct-known3 .given .1 .1 .0)
 
 cast-t25 : tie.Need-cast-t25
-cast-t25 c = fits-32-64 (c .struct-known5 .given .1 .1 .1 .1 .0)
+cast-t25 c = fits-16-64 (c .struct-known4 .given .1 .1 .1 .1 .1 .1 .0)
 
 cast-t26 : tie.Need-cast-t26
-cast-t26 c = fits-8-64 (c .struct-known6 .given .1 .1 .1 .1 .1 .0)
+cast-t26 c = fits-32-64 (c .struct-known5 .given .1 .1 .1 .1 .1 .1 .1 .0)
 
-slice-aggregate-put-row : tie.Need-slice-aggregate-put-row
-slice-aggregate-put-row c = refl
+cast-t27 : tie.Need-cast-t27
+cast-t27 c = fits-8-64 (c .struct-known6 .given .1 .1 .1 .1 .1 .1 .1 .1 .0)
 
-put-row-requires : tie.Need-put-row-requires
-put-row-requires c κs = tt
+slice-aggregate-put-begun-2 : tie.Need-slice-aggregate-put-begun-2
+slice-aggregate-put-begun-2 c = refl
+
+put-begun-requires-2 : tie.Need-put-begun-requires-2
+put-begun-requires-2 c κs = tt
+
+put-part-requires : tie.Need-put-part-requires
+put-part-requires c κs = tt
 
 same-length : tie.Need-same-length
 same-length c = search needs
@@ -66,9 +69,10 @@ same-length-2 c = search needs
 returns-2 : tie.Need-returns-2
 unfolding uploadLine
 returns-2 c =
-    let put = c .before .before in
-    let known = put .before .before .before .before .before .before .before .before .before .before in
-    adds-as (uploadLine (known .before .before .before .args .kind)) _ _ (known .upload .given .1) (put .put-row .ensures)
+    let part = c .before .before in
+    let begun = part .before .before .before .before in
+    let known = begun .before .before .before .before .before .before .before .before .before .before in
+    adds-as (uploadLine (known .before .before .before .args .kind)) _ _ (known .upload .given .1) (adds-both (begun .put-begun2 .ensures) (part .put-part .ensures))
 
 pub put-upload-spec : {M : Type 1} → statement M
 put-upload-spec =
@@ -80,14 +84,15 @@ put-upload-spec =
     slice-aggregate-put
     put-requires
     enum-known-upload
-    cast-t21
     cast-t22
     cast-t23
     cast-t24
     cast-t25
     cast-t26
-    slice-aggregate-put-row
-    put-row-requires
+    cast-t27
+    slice-aggregate-put-begun-2
+    put-begun-requires-2
+    put-part-requires
     same-length
     returns
     same-length-2
