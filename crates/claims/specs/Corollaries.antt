@@ -1,20 +1,22 @@
 -- What demand 3 says of the service in plain terms: of the state and the store before and after, and of what the calls gave. Each follows from demand 3
 -- by what the rules alone say of lists of calls (`call_lists`).
-use Prim.Native.Nat.{ℕ, _<_}
+use Prim.Native.Nat.{ℕ, _+_, _<_}
 use mathlib.Core.Path.{_≡_, refl, sym, ap, subst, _∙_}
+use mathlib.Core.Logic.{_⊎_}
+use mathlib.Core.Bool.{true}
 use mathlib.Core.List.{List, [], _∷_, _++_, map, map-append}
 use lib.ListN.{length, getD}
 use lib.Seq.{getD-append-seam}
-use Rattle.rules.specs.Limits.{everyKind, denied}
+use Rattle.rules.specs.Limits.{flight, everyKind, denied}
 use Rattle.rules.specs.Payload.{Bytes}
-use Rattle.rules.specs.Messages.{Station, Item, Message, ack, requestInt, itemInt, decode}
-use Rattle.rules.specs.Model.{Model, fresh, planOf, uploadOf, put}
-use Rattle.rules.specs.Calls.{Call, Request, clears, asksItem, announces, brings, request, expiry, commandDone}
+use Rattle.rules.specs.Messages.{Station, Item, Message, ack, requestInt, itemInt, decode, itemOf}
+use Rattle.rules.specs.Model.{Task, Shown, Model, fresh, planOf, lengthOf, uploadOf, noCounts, nextNumber, put}
+use Rattle.rules.specs.Calls.{Call, Request, clears, asksItem, brings, request, expiry, commandDone}
 use Rattle.rules.specs.Step.{Answer, says, ReadsBack, currentField, run, answers}
 use Rattle.rule_laws.specs.Fitting.{CallsFit}
-use Rattle.call_lists.specs.Uploads.{hears, answerTo, Open, Completes}
+use Rattle.call_lists.specs.Uploads.{shownBy, hears, answerTo, Starts, expectedBy, Open, Completes}
 use Rattle.call_lists.specs.Corollaries as rule
-use Rattle.call_lists.specs.Corollaries.{Says, Spares, since, uploadedItems}
+use Rattle.call_lists.specs.Corollaries.{Says, Spares, NeverCompleted, NeverSteered, Unsteered, progressOf, since, uploadedItems}
 use Rattle.call_lists.specs.Laws.Lists.{answers-snoc}
 use Rattle.claims.specs.Demand3.{Got, gotOf, AllRead, stop, call}
 use Rattle.claims.specs.Service.{World, start, shows, Trace, demand-3}
@@ -72,16 +74,40 @@ module _ {pre : List Call} {c : Call} {v w : World} {g : Got} (called : Called p
 
 -- ---- half an upload leaves the old plan whole
 
--- While an upload is open, state and store show the plan of its kind that they showed before its COUNT, every byte of every item.
+-- what is seen of the model after two lists of calls is what is seen after the first, where the rules say so
+seen-same :
+    {A : Type 0} (seen : Model → A) {s : Store} {pre post : List Call} {gs hs : List Got} {v w : World} → Trace (start s) pre gs v → Trace v post hs w
+    → seen (run fresh (pre ++ post)) ≡ seen (run fresh pre) → seen (shows w) ≡ seen (shows v)
+seen-same seen {s} {pre} {post} {gs} {hs} {v} {w} first more by-rule =
+    ap seen (demand-3 s (pre ++ post) (gs ++ hs) w (append first more) .model) ∙ by-rule ∙ sym (ap seen (demand-3 s pre gs v first .model))
+
+-- While an upload is open, of all items or of a few, state and store show the plan of its kind that they showed before its COUNT or 38, every byte of every item;
 pub old-plan-stands :
     {s : Store} {pre post : List Call} {gs hs : List Got} {v w : World} → Trace (start s) pre gs v → Trace v post hs w
-    → {k : ℕ} {o : Station} {n : ℕ} {got : List Bytes} {started repeats : ℕ} (up : Open k o n (pre ++ post) got started repeats) → since up ≡ pre
+    → {k : ℕ} {o : Station} {t : Task} {got : List Bytes} {started repeats : ℕ} (up : Open k o t (pre ++ post) got started repeats) → since up ≡ pre
     → planOf (shows w .shown) k ≡ planOf (shows v .shown) k
-old-plan-stands {s} {pre} {post} {gs} {hs} {v} {w} first more {k} up announced =
-    ap (λ (m : Model). planOf (m .shown) k) (demand-3 s (pre ++ post) (gs ++ hs) w (append first more) .model)
-    ∙ rule.half-sent up
-    ∙ ap (λ (cs : List Call). planOf (run fresh cs .shown) k) announced
-    ∙ sym (ap (λ (m : Model). planOf (m .shown) k) (demand-3 s pre gs v first .model))
+old-plan-stands first more {k} up announced =
+    seen-same (λ (m : Model). planOf (m .shown) k) first more (rule.half-sent up ∙ ap (λ (cs : List Call). planOf (shownBy cs) k) announced)
+
+-- and if it is never completed, they show it whatever comes then, until a call completes an upload of the kind or empties its plan.
+pub never-completed :
+    {s : Store} {pre post : List Call} {gs hs : List Got} {v w : World} → Trace (start s) pre gs v → Trace v post hs w
+    → {k : ℕ} → NeverCompleted k pre (pre ++ post) → planOf (shows w .shown) k ≡ planOf (shows v .shown) k
+never-completed first more {k} none = seen-same (λ (m : Model). planOf (m .shown) k) first more (rule.never-completed none)
+
+-- Of a flight plan also the current item, whether it is begun, and the jump counts: while the upload is open and nothing steers,
+pub progress-stands :
+    {s : Store} {pre post : List Call} {gs hs : List Got} {v w : World} → Trace (start s) pre gs v → Trace v post hs w
+    → {o : Station} {t : Task} {got : List Bytes} {started repeats : ℕ} (up : Open flight o t (pre ++ post) got started repeats) → since up ≡ pre → Unsteered up
+    → progressOf (shows w .shown) ≡ progressOf (shows v .shown)
+progress-stands first more up announced calm =
+    seen-same (λ (m : Model). progressOf (m .shown)) first more (rule.half-sent-progress up calm ∙ ap (λ (cs : List Call). progressOf (shownBy cs)) announced)
+
+-- and then.
+pub never-steered :
+    {s : Store} {pre post : List Call} {gs hs : List Got} {v w : World} → Trace (start s) pre gs v → Trace v post hs w
+    → NeverSteered pre (pre ++ post) → progressOf (shows w .shown) ≡ progressOf (shows v .shown)
+never-steered first more none = seen-same (λ (m : Model). progressOf (m .shown)) first more (rule.never-steered none)
 
 module _ {pre : List Call} {c : Call} {v w : World} {g : Got} (called : Called pre c v g w) where
   -- A call that neither completes an upload of a kind nor empties its plan leaves that plan as it stood.
@@ -98,11 +124,50 @@ module _ {pre : List Call} {c : Call} {v w : World} {g : Got} (called : Called p
   -- ---- a completed upload
 
   -- At its last item an upload takes effect at one stroke: what is shown is what was shown, with the items put in.
-  pub takes-effect : (k : ℕ) (items : List Bytes) → Completes pre c k items → shows w .shown ≡ put k items (shows v .shown)
+  pub takes-effect : (k : ℕ) (items : List Bytes) (done : Completes pre c k items) → shows w .shown ≡ put (done .task .partial) k items (shows v .shown)
   takes-effect k items completed =
       ap (λ (m : Model). m .shown) (after called)
       ∙ demand-3 (called .store) (pre ++ (c ∷ [])) (called .given ++ (g ∷ [])) w (all called) .takesEffect pre [] c refl k items completed
-      ∙ ap (λ (m : Model). put k items (m .shown)) (sym (before called))
+      ∙ ap (λ (m : Model). put (completed .task .partial) k items (m .shown)) (sym (before called))
+
+  -- What the last of a few items makes of the plan: (M-108) "the plan with those items changed replaces the old one at one stroke, all others staying bit for bit".
+  pub record FewChanged (k : ℕ) (items : List Bytes) (done : Completes pre c k items) : Type 0 where
+    -- as many items as before
+    pub long : lengthOf (shows w .shown) k ≡ lengthOf (shows v .shown) k
+    -- every item outside the range as it was
+    pub outside :
+        (i : ℕ) → i < lengthOf (shows v .shown) k → (i < done .task .first) ⊎ (done .task .last < i)
+        → getD (planOf (shows w .shown) k .items) i [] ≡ getD (planOf (shows v .shown) k .items) i []
+    -- the sender's items inside it, all of them
+    pub sent : done .task .first + length (uploadedItems done) ≡ done .task .last + 1
+    pub inside :
+        (i : ℕ) (d : Item) → i < length (uploadedItems done)
+        → getD (planOf (shows w .shown) k .items) (done .task .first + i) [] ≡ itemOf (getD (uploadedItems done) i d)
+    -- "For flight, current item and begun stay and jump counts become 0; a new plan number is given."
+    pub current : shows w .shown .current ≡ shows v .shown .current
+    pub begun : shows w .shown .begun ≡ shows v .shown .begun
+    pub counts : k ≡ flight → shows w .shown .counts ≡ noCounts
+    pub number : planOf (shows w .shown) k .number ≡ nextNumber (planOf (shows v .shown) k .number)
+
+  pub few-changed : (k : ℕ) (items : List Bytes) (done : Completes pre c k items) → done .task .partial ≡ true → FewChanged k items done
+  few-changed k items done part =
+      let here = rule.placed pre c k items done in
+      let was : shownBy pre ≡ shows v .shown = sym (ap (λ (m : Model). m .shown) (before called)) in
+      let is : shows w .shown ≡ shownBy (pre ++ (c ∷ [])) = ap (λ (m : Model). m .shown) (after called) in
+      let long : lengthOf (shownBy (pre ++ (c ∷ []))) k ≡ lengthOf (shownBy pre) k = here .long ∙ here .part part in
+      record {
+        long = ap (λ (x : Shown). lengthOf x k) is ∙ long ∙ ap (λ (x : Shown). lengthOf x k) was;
+        outside = λ i below apart.
+            ap (λ (x : Shown). getD (planOf x k .items) i []) is
+            ∙ here .outside i (subst (λ (n : ℕ). i < n) (sym (long ∙ ap (λ (x : Shown). lengthOf x k) was)) below) apart
+            ∙ ap (λ (x : Shown). getD (planOf x k .items) i []) was;
+        sent = here .sent;
+        inside = λ i d below. ap (λ (x : Shown). getD (planOf x k .items) (done .task .first + i) []) is ∙ here .inside i d below;
+        current = ap (λ (x : Shown). x .current) is ∙ here .current part ∙ ap (λ (x : Shown). x .current) was;
+        begun = ap (λ (x : Shown). x .begun) is ∙ here .begun part ∙ ap (λ (x : Shown). x .begun) was;
+        counts = λ e. ap (λ (x : Shown). x .counts) is ∙ here .counts e;
+        number = ap (λ (x : Shown). planOf x k .number) is ∙ here .number ∙ ap (λ (x : Shown). nextNumber (planOf x k .number)) was;
+      }
 
   -- ---- a call that is answered and changes nothing
 
@@ -122,17 +187,17 @@ module _ {pre : List Call} {c : Call} {v w : World} {g : Got} (called : Called p
 
   -- An item out of turn, a repeated one among them, changes nothing and is answered by a request for the expected one.
   pub out-of-turn :
-      (k : ℕ) (o : Station) (n : ℕ) (got : List Bytes) (started repeats now : ℕ) (item : Item) → Open k o n pre got started repeats
-      → hears c ≡ request o now k (brings item) → (item .seq ≡ length got → ⊥) → Answers (requestInt o (length got) k)
-  out-of-turn k o n got started repeats now item up sent other =
-      answers-by (requestInt o (length got) k) (rule.out-of-turn pre c k o n got started repeats now item up sent other)
+      (k : ℕ) (o : Station) (t : Task) (got : List Bytes) (started repeats now : ℕ) (item : Item) → Open k o t pre got started repeats
+      → hears c ≡ request o now k (brings item) → (item .seq ≡ expectedBy t got → ⊥) → Answers (requestInt o (expectedBy t got) k)
+  out-of-turn k o t got started repeats now item up sent other =
+      answers-by (requestInt o (expectedBy t got) k) (rule.out-of-turn pre c k o t got started repeats now item up sent other)
 
-  -- A second station's COUNT of the same kind is denied and changes nothing.
+  -- A second station's COUNT or 38 of the same kind is denied and changes nothing.
   pub second-station :
-      (k : ℕ) (o o′ : Station) (n n′ : ℕ) (got : List Bytes) (started repeats now : ℕ) → Open k o n pre got started repeats → (o′ ≡ o → ⊥)
-      → hears c ≡ request o′ now k (announces n′) → Answers (ack o′ denied k 0)
-  second-station k o o′ n n′ got started repeats now up other sent =
-      answers-by (ack o′ denied k 0) (rule.second-station pre c k o o′ n n′ got started repeats now up other sent)
+      (k : ℕ) (o o′ : Station) (t : Task) (q : Request) (got : List Bytes) (started repeats now : ℕ) → Open k o t pre got started repeats → (o′ ≡ o → ⊥)
+      → Starts q → hears c ≡ request o′ now k q → Answers (ack o′ denied k 0)
+  second-station k o o′ t q got started repeats now up other starts sent =
+      answers-by (ack o′ denied k 0) (rule.second-station pre c k o o′ t q got started repeats now up other starts sent)
 
   -- ---- kinds apart
 
@@ -162,11 +227,12 @@ module _ {pre : List Call} {c : Call} {v w : World} {g : Got} (called : Called p
 
 -- ---- the item that comes back
 
--- After an upload by calls that fit took effect, REQUEST_INT i is answered with the sender's item i: what was given is read as that item, bit for bit.
+-- After an upload by calls that fit took effect, REQUEST_INT of its number i, counted from its first (0 of a whole upload), is answered with the sender's item i: what was given is
+-- read as that item, bit for bit.
 pub item-comes-back :
     {pre : List Call} {c c′ : Call} {k : ℕ} {items : List Bytes} {v w : World} {g : Got} → Called (pre ++ (c ∷ [])) c′ v g w → (done : Completes pre c k items)
-    → CallsFit (pre ++ (c ∷ [])) → (o : Station) (now i : ℕ) (d : Item) → hears c′ ≡ request o now k (asksItem i) → i < length (uploadedItems done)
-    → decode (g .id) (g .reply) ≡ itemInt o (currentField k i (shows v .shown .current)) (getD (uploadedItems done) i d)
+    → CallsFit (pre ++ (c ∷ [])) → (o : Station) (now i : ℕ) (d : Item) → hears c′ ≡ request o now k (asksItem (done .task .first + i)) → i < length (uploadedItems done)
+    → decode (g .id) (g .reply) ≡ itemInt o (currentField k (done .task .first + i) (shows v .shown .current)) (getD (uploadedItems done) i d)
 item-comes-back {pre} {c} {c′} {k} {items} {v} {w} {g} called done fit o now i d sent below =
     subst (λ (a : Answer). ReadsBack a (g .id) (g .reply)) (rule.item-answered pre c c′ k items done o now i d fit sent below) (reads called)
-    ∙ ap (λ (m : Model). itemInt o (currentField k i (m .shown .current)) (getD (uploadedItems done) i d)) (sym (before called))
+    ∙ ap (λ (m : Model). itemInt o (currentField k (done .task .first + i) (m .shown .current)) (getD (uploadedItems done) i d)) (sym (before called))

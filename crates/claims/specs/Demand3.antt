@@ -1,5 +1,5 @@
 -- Demand 3: one statement over every list of calls, each lent the state and a front part of the store as the last one left them.
-use Prim.Native.Nat.{ℕ, _≤_}
+use Prim.Native.Nat.{ℕ, _≤_, _<_}
 use mathlib.Core.Path.{_≡_, refl, sym, ap, ap₂, subst, _∙_}
 use mathlib.Core.List.{List, [], _∷_, _++_, map}
 use mathlib.Core.Bool.{Bool, true, false}
@@ -11,13 +11,13 @@ use Rattle.rules.specs.Limits.{rally, storeWords, sizeOf, outOfRange, shortStor
 use Rattle.rules.specs.Limits
 use Rattle.rules.specs.Payload.{Bytes}
 use Rattle.rules.specs.Messages.{Station, ack}
-use Rattle.rules.specs.Model.{Model, fresh, inRange, put, empty}
+use Rattle.rules.specs.Model.{Model, Task, lengthOf, fresh, inRange, put, empty}
 use Rattle.rules.specs.NextCommand.{Command}
-use Rattle.rules.specs.Calls.{Call, message, timer, done, storeLent, bufferLent, announces, request, heard}
+use Rattle.rules.specs.Calls.{Call, message, timer, done, storeLent, bufferLent, Request, announces, changes, request, heard}
 use Rattle.rules.specs.Step.{Answer, refused, says, outcomeOf, replyId, replyBytes, ReadsBack, commandIn, isRefused, Stepped, act, step, run, answers}
 use Rattle.refine.specs.Promise.{Result, Serves}
-use Rattle.call_lists.specs.Uploads.{shownBy, answerTo, hears, letIn, Open, Completes, Empties, Stroke}
-use Rattle.call_lists.specs.Rules.{never-out-of-range, only-strokes, takes-effect, empties-effect, lets-in, denies}
+use Rattle.call_lists.specs.Uploads.{shownBy, answerTo, hears, letIn, Starts, Open, Alone, Completes, Empties, Stroke}
+use Rattle.call_lists.specs.Rules.{never-out-of-range, only-strokes, takes-effect, empties-effect, lets-in, lets-part-in, denies}
 use Rattle.call_lists.specs.Laws.Ranged.{Formed, fresh-formed, formed-ranged}
 use Rattle.call_lists.specs.Laws.Kept.{step-kept}
 use Rattle.places.specs.Forms.{Store}
@@ -73,22 +73,26 @@ module _ (State : Type 0) (freshState : State) (view : State → Store → Model
     pub ranged : (pre post : List Call) (c : Call) → cs ≡ pre ++ (c ∷ post) → answerTo pre c ≡ refused outOfRange → ⊥
     -- "only completed uploads, allowed clears, accepted item choices and advances change these, each at one stroke"
     pub only : (pre post : List Call) (c : Call) → cs ≡ pre ++ (c ∷ post) → Stroke pre c (shownBy (pre ++ (c ∷ [])))
-    -- an upload that arrives takes effect at its last item: "the sender's own items taken since its count, as they came, all and in order"
+    -- an upload that arrives takes effect at its last item: "the sender's own items taken since its count, as they came, all and in order"; (M-108) of a part "the sender's
+    -- items taken since its 38, over the plan's from start to end"
     pub takesEffect :
-        (pre post : List Call) (c : Call) → cs ≡ pre ++ (c ∷ post) → (k : ℕ) (items : List Bytes) → Completes pre c k items
-        → shownBy (pre ++ (c ∷ [])) ≡ put k items (shownBy pre)
+        (pre post : List Call) (c : Call) → cs ≡ pre ++ (c ∷ post) → (k : ℕ) (items : List Bytes) (d : Completes pre c k items)
+        → shownBy (pre ++ (c ∷ [])) ≡ put (d .task .partial) k items (shownBy pre)
     -- "an empty one at its count", and an allowed clear
     pub empties :
         (pre post : List Call) (c : Call) → cs ≡ pre ++ (c ∷ post) → (ks : List ℕ) → Empties pre c ks → shownBy (pre ++ (c ∷ [])) ≡ empty ks (shownBy pre)
     -- a fitting COUNT is let in unless another station's upload of the kind is open
     pub letsIn :
         (pre post : List Call) (c : Call) → cs ≡ pre ++ (c ∷ post) → (k : ℕ) (o : Station) (now n : ℕ) → hears c ≡ request o now k (announces n) → k ≤ rally → n ≤ sizeOf k
-        → ((o′ : Station) (n′ : ℕ) (got : List Bytes) (started repeats : ℕ) → Open k o′ n′ pre got started repeats → o′ ≡ o)
-        → letIn (answerTo pre c) ≡ true
-    -- and is denied then
+        → Alone k o pre → letIn (answerTo pre c) ≡ true
+    -- so is a fitting MISSION_WRITE_PARTIAL_LIST
+    pub letsPartIn :
+        (pre post : List Call) (c : Call) → cs ≡ pre ++ (c ∷ post) → (k : ℕ) (o : Station) (now start end : ℕ) → hears c ≡ request o now k (changes start end)
+        → k ≤ rally → start ≤ end → end < lengthOf (shownBy pre) k → Alone k o pre → letIn (answerTo pre c) ≡ true
+    -- either is denied then
     pub denied :
-        (pre post : List Call) (c : Call) → cs ≡ pre ++ (c ∷ post) → (k : ℕ) (o o′ : Station) (n n′ : ℕ) (got : List Bytes) (started repeats now : ℕ)
-        → Open k o n pre got started repeats → (o′ ≡ o → ⊥) → hears c ≡ request o′ now k (announces n′) → answerTo pre c ≡ says (ack o′ Limits.denied k 0)
+        (pre post : List Call) (c : Call) → cs ≡ pre ++ (c ∷ post) → (k : ℕ) (o o′ : Station) (t : Task) (q : Request) (got : List Bytes) (started repeats now : ℕ)
+        → Open k o t pre got started repeats → (o′ ≡ o → ⊥) → Starts q → hears c ≡ request o′ now k q → answerTo pre c ≡ says (ack o′ Limits.denied k 0)
 
   -- demand 3
   abbrev pub Demand : Type 0
@@ -191,5 +195,6 @@ module _ (State : Type 0) (freshState : State) (view : State → Store → Model
           takesEffect = λ pre post c e. takes-effect pre c;
           empties = λ pre post c e. empties-effect pre c;
           letsIn = λ pre post c e. lets-in pre c;
+          letsPartIn = λ pre post c e. lets-part-in pre c;
           denied = λ pre post c e. denies pre c;
         }

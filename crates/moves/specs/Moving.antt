@@ -1,9 +1,8 @@
 -- The store after the items of a plan were moved, as the code moves them, one after the other; and what it shows.
 use Prim.Native.Nat.{ℕ, zero, suc, _+_, _≤_, _<_}
 use native.Mathlib.Omega.{arith}
-use native.Mathlib.Numerals.{add-one}
 use mathlib.Core.Path.{_≡_, refl, sym, ap, _∙_}
-use mathlib.Core.Logic.{_⊎_, inl, inr, ⊎-elim}
+use mathlib.Core.Logic.{_⊎_}
 use mathlib.Core.List.{List, [], _∷_, _++_}
 use mathlib.Core.Bool.{Bool, false, _||_}
 use lib.ListN.{length, getD}
@@ -13,10 +12,9 @@ use Rattle.rules.specs.Messages.{itemIn}
 use Rattle.rules.specs.Words.{wordsOf}
 use Rattle.rule_laws.specs.Tests.{neither, outside}
 use Rattle.rule_laws.specs.Words.{length-wordsOf}
-use Rattle.places.specs.Part.{getD-put-before, getD-put-after}
 use Rattle.places.specs.Forms.{Store, words, bytes, least, offsetOf, itemAt, itemsIn, length-items}
-use Rattle.places.specs.Places.{words-lawful, offset-next, offset-within}
-use Rattle.places.specs.Writes.{putAt, otherKind, items-apart, items-more, length-stays}
+use Rattle.places.specs.Places.{words-lawful}
+use Rattle.places.specs.Writes.{putAt, otherKind, Leaves, leaves-same, leaves-both, leaves-wider, put-leaves, items-left, items-more}
 use Rattle.plan.specs.declared.State.{State}
 use Rattle.plan.specs.declared.Plan.{Plan}
 use Rattle.plan.specs.View.{planOf, uploadIn, viewIn, view}
@@ -39,13 +37,22 @@ placed-more kind n (a ∷ items) b =
     (placed-more kind (suc n) items b ∙ ap (λ (k : ℕ). placedFrom kind (suc n) items ++ (placed kind k b ∷ [])) (omega arith))
 
 module _ (old new : Store) (long : least words ≤ length new) (half : Bool) (kind : ℕ) (known : kind ≤ rally) where
-  pub moved-length : (n : ℕ) → n ≤ sizeOf kind → length (movedItems old new half kind n) ≡ length new
+  -- what is elsewhere stays
+  moved-leaves : (n : ℕ) → n ≤ sizeOf kind → Leaves words half kind 0 n new (movedItems old new half kind n)
   unfolding movedItems
-  moved-length zero within = refl
-  moved-length (suc n) within =
-      let before = moved-length n (omega arith) in
+  moved-leaves zero within = leaves-same words half kind 0 0 new
+  moved-leaves (suc n) within =
+      let so-far = movedItems old new half kind n in
+      let rest = moved-leaves n (omega arith) in
       let item = itemIn (itemAt bytes old half kind n) in
-      length-stays words words-lawful (movedItems old new half kind n) (omega (arith, before)) (wordsOf item) (length-wordsOf item) half kind n known (omega arith) ∙ before
+      let put = putAt words so-far half kind n (wordsOf item) in
+      leaves-both words half kind 0 (suc n) new so-far put
+      (leaves-wider words half kind 0 n 0 (suc n) new so-far (omega arith) (omega arith) rest)
+      (leaves-wider words half kind n (n + 1) 0 (suc n) so-far put (omega arith) (omega arith)
+      (put-leaves words words-lawful so-far (omega (arith, rest .long)) (wordsOf item) (length-wordsOf item) half kind n known (omega arith)))
+
+  pub moved-length : (n : ℕ) → n ≤ sizeOf kind → length (movedItems old new half kind n) ≡ length new
+  moved-length n within = moved-leaves n within .long
 
   -- the items that were moved
   pub moved-items : (n : ℕ) → n ≤ sizeOf kind → itemsIn words (movedItems old new half kind n) half kind n ≡ placedFrom kind 0 (itemsIn bytes old half kind n)
@@ -63,34 +70,14 @@ module _ (old new : Store) (long : least words ≤ length new) (half : Bool) (ki
   pub moved-apart :
       (n : ℕ) → n ≤ sizeOf kind → (half′ : Bool) (kind′ m : ℕ) → kind′ ≤ rally → m ≤ sizeOf kind′ → (kind′ ≡ kind → ⊥)
       → itemsIn words (movedItems old new half kind n) half′ kind′ m ≡ itemsIn words new half′ kind′ m
-  unfolding movedItems
-  moved-apart zero within half′ kind′ m known′ within′ other = refl
-  moved-apart (suc n) within half′ kind′ m known′ within′ other =
-      let item = itemIn (itemAt bytes old half kind n) in
-      items-apart words words-lawful (movedItems old new half kind n) (omega (arith, moved-length n (omega arith))) (wordsOf item) (length-wordsOf item) half kind n known (omega arith)
-      half′ kind′ m known′ within′ (otherKind other)
-      ∙ moved-apart n (omega arith) half′ kind′ m known′ within′ other
+  moved-apart n within half′ kind′ m known′ within′ other =
+      items-left words half kind 0 n new (movedItems old new half kind n) (moved-leaves n within) half′ kind′ m known′ within′ (λ i below. otherKind other)
 
   -- every word outside their places
   pub moved-beside :
       (n : ℕ) → n ≤ sizeOf kind → (i : ℕ) → (i < offsetOf words half kind 0) ⊎ (offsetOf words half kind n ≤ i)
       → getD (movedItems old new half kind n) i 0 ≡ getD new i 0
-  unfolding movedItems
-  moved-beside zero within i outside = refl
-  moved-beside (suc n) within i outside =
-      let before = movedItems old new half kind n in
-      let item = itemIn (itemAt bytes old half kind n) in
-      let at = offsetOf words half kind n in
-      let fits : at + length (wordsOf item) ≤ length before = omega (arith, moved-length n (omega arith), offset-within words words-lawful half kind n known (omega arith)) in
-      let next : offsetOf words half kind (suc n) ≡ at + length (wordsOf item) = ap (offsetOf words half kind) (sym (add-one n)) ∙ offset-next words half kind n in
-      ⊎-elim
-      (λ (lower : i < offsetOf words half kind 0). getD-put-before before at (wordsOf item) fits i (omega (arith, first-lowest n)) ∙ moved-beside n (omega arith) i (inl lower))
-      (λ (upper : offsetOf words half kind (suc n) ≤ i). getD-put-after before at (wordsOf item) fits i (omega (arith, next)) ∙ moved-beside n (omega arith) i (inr (omega (arith, next))))
-      outside
-    where
-      first-lowest : (m : ℕ) → offsetOf words half kind 0 ≤ offsetOf words half kind m
-      first-lowest zero = omega arith
-      first-lowest (suc m) = omega (arith, first-lowest m, ap (offsetOf words half kind) (add-one m), offset-next words half kind m)
+  moved-beside n within = moved-leaves n within .numbers
 
 -- ---- the three plans of a state, each with no more items than its kind's size
 
