@@ -160,9 +160,9 @@ fn last_turn(store: &mut [u32], kind: u8, plan: Plan, run: Run) -> Turned
     ensures { λ r. ⌜ turnWith r (now (store .exit)) ≡ turnWith (lastTurned words (settled words (now (store .entry)) kind plan run) kind plan run) (settled words (now (store .entry)) kind plan run) ⌝ }
 {
     settle(store, kind, plan, run);
-    let result = whole_fault(store, kind, !plan.half, run);
-    if result != ACCEPTED {
-        return moves(ended(plan), Say::Ack(result, 0));
+    let fault = whole_fault(store, kind, !plan.half, run);
+    if fault != ACCEPTED {
+        return moves(ended(plan), Say::Ack(fault, 0));
     }
     let new = replaced(plan, run.count);
     puts_in(run.partial, new, Say::Ack(ACCEPTED, new.number))

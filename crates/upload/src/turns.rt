@@ -81,7 +81,7 @@ pub fn on_partial(plan: Plan, system: u8, component: u8, clock: u32, start: u16,
     if !part_ok(plan.len, start, end) {
         return moves(ended(plan), Say::Ack(INVALID_SEQUENCE, 0));
     }
-    let run = Run {
+    let part = Run {
         system,
         component,
         count: plan.len,
@@ -92,7 +92,7 @@ pub fn on_partial(plan: Plan, system: u8, component: u8, clock: u32, start: u16,
         started: clock,
         repeats: 0,
     };
-    opened(plan, run)
+    opened(plan, part)
 }
 
 // ACK from a station: a result that is not 0 ends the station's own upload.
