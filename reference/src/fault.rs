@@ -1,7 +1,7 @@
 //! Faults that can be planted in the reference. A comparison that does not find
 //! a planted fault is too weak.
 
-use crate::layout::{full_length, ACK, CLEAR_ALL, COUNT, ITEM_INT, REQUEST_INT, REQUEST_LIST};
+use crate::layout::*;
 
 macro_rules! faults {
     ($($case:ident $name:literal $what:literal)*) => {
@@ -117,6 +117,7 @@ pub fn kind_from_last_byte(id: u32, payload: &[u8]) -> Vec<u8> {
         REQUEST_LIST | CLEAR_ALL => 2,
         ACK => 3,
         COUNT | REQUEST_INT => 4,
+        WRITE_PARTIAL_LIST => 6,
         ITEM_INT => 37,
         _ => return payload.to_vec(),
     };

@@ -46,7 +46,7 @@ impl Generator {
             5 => Record { store: past_store, ..of(any.max(1)) },
             6 => Record { store: OLD_STORE_BYTES as u32, ..of(record::DONE) },
             7 => Record { reply: REPLY_ARRAY as u32 + 1, ..of(record::TIMER) },
-            8 => Record::poke(13, 0, 0),
+            8 => Record::poke(field::LAST + 1, 0, 0),
             9 => Record::poke(field::NUMBER, 3, 0),
             10 => Record::poke(field::JUMP_COUNT, MAX_JUMPS as u8, 0),
             11 => Record { b: [0, 0, 0, 0, 1], ..of(record::FRESH) },

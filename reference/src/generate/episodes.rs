@@ -310,8 +310,8 @@ impl Generator {
     pub(super) fn bad_upload(&mut self, size: u16) -> Upload {
         let good = self.good_upload(size);
         match self.random.below(4) {
-            0 => Upload { count: 0, next: 0, ..good },
-            1 => Upload { count: size + 1, ..good },
+            0 => Upload { repeats: good.repeats, ..Upload::whole(good.station, 0, good.start) },
+            1 => Upload { count: size + 1, last: size, ..good },
             2 => Upload { next: good.count, ..good },
             _ => Upload { repeats: self.random.pick(&[6, 255]), ..good },
         }
@@ -321,11 +321,9 @@ impl Generator {
         let most = self.random.pick(&[4, size]);
         let count = self.random.within(1, usize::from(most)) as u16;
         Upload {
-            station: self.any_station(),
-            count,
             next: self.random.below(usize::from(count)) as u16,
-            start: self.clock,
             repeats: self.random.within(0, 5) as u8,
+            ..Upload::whole(self.any_station(), count, self.clock)
         }
     }
 

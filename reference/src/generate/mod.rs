@@ -395,17 +395,7 @@ impl Generator {
     /// Pokes an upload whole.
     fn poke_upload(&mut self, kind: usize, upload: Option<Upload>) {
         self.settle_free_places(kind);
-        let Upload { station, count, next, start, repeats } = upload.unwrap_or_default();
-        let values = [
-            u32::from(upload.is_some()),
-            u32::from(station.system),
-            u32::from(station.component),
-            u32::from(count),
-            u32::from(next),
-            start,
-            u32::from(repeats),
-        ];
-        let pokes = Record::pokes(field::RUNNING, kind as u8, &values);
+        let pokes = Record::upload_pokes(kind as u8, upload);
         pokes.into_iter().for_each(|poke| self.emit(poke));
     }
 

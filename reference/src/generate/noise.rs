@@ -317,7 +317,7 @@ impl Generator {
 
     fn unread_id(&mut self, id: u32) -> u32 {
         let any = self.random.word();
-        let others = [0, 38, 39, 40, 42, 46, 48, 50, 52, 72, 74, 253, 255];
+        let others = [0, 37, 39, 40, 42, 46, 48, 50, 52, 72, 74, 253, 255];
         let other = self.random.pick(&others);
         let wider = self.random.pick(&[1 << 8, 1 << 16, 1 << 24, 1 << 31]);
         self.random.weighted(&[(3, other), (3, id ^ wider), (1, any)])
@@ -327,6 +327,7 @@ impl Generator {
     fn foreign_target(&mut self, record: &mut Record) {
         let at = match record.a {
             SET_CURRENT | COUNT | REQUEST_INT => 2,
+            WRITE_PARTIAL_LIST => 4,
             ITEM_INT => 32,
             _ => 0,
         };
