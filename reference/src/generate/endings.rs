@@ -47,7 +47,7 @@ impl Generator {
             6 => Record { store: OLD_STORE_BYTES as u32, ..of(record::DONE) },
             7 => Record { reply: REPLY_ARRAY as u32 + 1, ..of(record::TIMER) },
             8 => Record::poke(field::LAST + 1, 0, 0),
-            9 => Record::poke(field::NUMBER, 3, 0),
+            9 => Record::poke(self.random.pick(&[field::NUMBER, field::PARTIAL]), 3, 0),
             10 => Record::poke(field::JUMP_COUNT, MAX_JUMPS as u8, 0),
             11 => Record { b: [0, 0, 0, 0, 1], ..of(record::FRESH) },
             12 => Record::about(record::SNAP, self.random.pick(&[2, 3, 255])),

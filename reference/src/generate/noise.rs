@@ -15,6 +15,7 @@ const GENTLE: &[(usize, Act)] = &[
     (3, Generator::wrong_invalid_item),
     (4, Generator::foreign_item),
     (2, Generator::foreign_count),
+    (2, Generator::foreign_change),
     (2, Generator::foreign_clear),
     (2, Generator::foreign_ack),
     (2, Generator::accepting_ack),
@@ -32,6 +33,7 @@ const HARSH: &[(usize, Act)] = &[
     (4, Generator::any_timer),
     (1, Generator::ending_ack),
     (3, Generator::own_count),
+    (2, Generator::own_change),
     (1, Generator::own_clear),
     (2, Generator::expected_edge_item),
     (1, Generator::cut_item),
@@ -170,11 +172,12 @@ impl Generator {
     fn unknown_kind(&mut self, _kind: usize) {
         let sender = self.any_station();
         let kind = self.random.pick(&[3, 4, 7, 127, 128, 254, 255]);
-        match self.random.below(5) {
+        match self.random.below(6) {
             0 => self.send_count(sender, kind, 1),
             1 => self.send_request_list(sender, kind),
             2 => self.send_request_int(sender, 0, kind),
-            3 if kind != ALL_KINDS => self.send_clear(sender, kind),
+            3 => self.send_change(sender, kind, (0, 0)),
+            4 if kind != ALL_KINDS => self.send_clear(sender, kind),
             _ => {
                 let item = self.numbered_item(FLIGHT, 0);
                 self.send_item(sender, Item { kind, ..item });
@@ -280,7 +283,8 @@ impl Generator {
     fn weighty_message(&mut self, kind: usize) -> Message {
         let to = self.target();
         let wire_kind = kind as u8;
-        match self.random.below(6) {
+        match self.random.below(7) {
+            6 => Message::WritePartialList { start: 0, end: 0, to, kind: wire_kind },
             0 => Message::Count { count: 0, to, kind: wire_kind, number: 0 },
             1 => Message::Count { count: 3, to, kind: wire_kind, number: 0 },
             2 => Message::ClearAll { to, kind: ALL_KINDS },
