@@ -40,8 +40,8 @@ fn refusal(state: &State, old_len: usize, new_len: usize, fault: Fault) -> Optio
     };
     let new_short = new_len < STORE_WORDS && !fault.is(Fault::MoveNewUnjudged);
     let in_range = match fault {
-        Fault::MoveUploadsUnjudged => without_uploads(state).in_range(),
-        _ => state.in_range(),
+        Fault::MoveUploadsUnjudged => without_uploads(state).in_range(fault),
+        _ => state.in_range(fault),
     };
     let mut reasons = [
         (old_len < least_old || new_short, outcome::SHORT_STORE),

@@ -214,7 +214,7 @@ impl Player {
 
     /// State and plans, with or without the halves that the plans are in.
     fn dump(&self, with_half: bool, out: &mut Vec<u8>) {
-        if !self.state().in_range() {
+        if !self.state().in_range(self.service.fault) {
             out.extend(b"D 15\n");
             return;
         }

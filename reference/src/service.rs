@@ -107,7 +107,7 @@ impl Service {
             Err(outcome::SHORT_STORE)
         } else if short_buffer && self.fault.is(Fault::BufferBeforeRange) {
             Err(outcome::SHORT_BUFFER)
-        } else if !self.state.in_range() {
+        } else if !self.state.in_range(self.fault) {
             Err(outcome::OUT_OF_RANGE)
         } else if short_buffer {
             Err(outcome::SHORT_BUFFER)
@@ -269,10 +269,13 @@ impl Service {
     fn judge_upload_item(&self, item: &Item, upload: &Upload, store: &[u32]) -> Result<(), u8> {
         let kind = usize::from(item.kind);
         let jumps_before = match item.command {
-            DO_JUMP if !upload.partial => self.upload_shelf(kind).jumps_before(store, upload.next),
+            DO_JUMP if upload.partial => self.jumps_beside(upload, store),
+            DO_JUMP => self.upload_shelf(kind).jumps(store, 0..upload.next),
             _ => 0,
         };
-        let standing = Standing { kind, number: item.seq, count: upload.count, jumps_before };
+        let to_end = upload.partial && self.fault.is(Fault::PartialTargetsToEnd);
+        let count = if to_end { upload.last + 1 } else { upload.count };
+        let standing = Standing { kind, number: item.seq, count, jumps_before };
         judge(item, &standing, self.fault)
     }
 
@@ -294,7 +297,12 @@ impl Service {
     /// the last.
     fn take(&mut self, item: Item, upload: Upload, clock: u32, store: &mut [u32]) -> Message {
         let kind = usize::from(item.kind);
-        self.upload_shelf(kind).put(store, upload.next, &self.stored(item));
+        let early = upload.partial && self.fault.is(Fault::PartialPlaceEarly);
+        let place = upload.next.saturating_sub(u16::from(early));
+        self.upload_shelf(kind).put(store, place, &self.stored(item));
+        if upload.partial && self.fault.is(Fault::PartialItemByItem) {
+            self.plan_shelf(kind).put(store, place, &self.stored(item));
+        }
         if upload.next == upload.last {
             return self.finish(kind, upload, store);
         }
@@ -313,6 +321,9 @@ impl Service {
             self.put_unchanged(kind, &upload, store);
         }
         if let Err(reason) = self.judge_whole(kind, &upload, store) {
+            if upload.partial && self.fault.is(Fault::PartialRefusedStays) {
+                self.state.plans[kind].upload = Some(upload);
+            }
             let own_place = upload.next..upload.next + 1;
             let free = if upload.partial { 0..count } else { own_place };
             self.use_free_words(kind, free, store);
@@ -324,10 +335,19 @@ impl Service {
 
     /// The verdict on all the items that are to be the plan.
     fn judge_whole(&self, kind: usize, upload: &Upload, store: &[u32]) -> Result<(), u8> {
-        if kind == FLIGHT && upload.partial && !self.jumps_fit(upload, store) {
-            return Err(result::NO_SPACE);
+        if upload.partial {
+            self.judge_unchanged(kind, upload, store)?;
         }
-        if kind == FENCE && !self.uploaded_fence_fits(upload.count, store) {
+        if kind == FLIGHT && upload.partial && !self.jumps_fit(upload, store) {
+            let misread = self.fault.is(Fault::PartialSpaceIs5);
+            return Err(if misread { result::INVALID } else { result::NO_SPACE });
+        }
+        let judged = match self.fault {
+            Fault::PartialFenceFree if upload.partial => 0..0,
+            Fault::PartialFenceSent => upload.first..upload.last + 1,
+            _ => 0..upload.count,
+        };
+        if kind == FENCE && !self.uploaded_fence_fits(judged, store) {
             return Err(result::INVALID);
         }
         Ok(())
@@ -348,9 +368,9 @@ impl Service {
         item
     }
 
-    fn uploaded_fence_fits(&self, count: u16, store: &[u32]) -> bool {
+    fn uploaded_fence_fits(&self, judged: Range<u16>, store: &[u32]) -> bool {
         let shelf = self.upload_shelf(FENCE);
-        let items: Vec<Item> = (0..count).map(|index| shelf.item(store, index)).collect();
+        let items: Vec<Item> = judged.map(|index| shelf.item(store, index)).collect();
         fence_fits(&items, self.fault)
     }
 
@@ -361,14 +381,16 @@ impl Service {
         if !self.fault.is(Fault::HalfNotSwitched) {
             plan.half = plan.other_half();
         }
-        plan.number = plan.number.wrapping_add(1);
+        if !(upload.partial && self.fault.is(Fault::PartialKeepsNumber)) {
+            plan.number = plan.number.wrapping_add(1);
+        }
         if plan.number == 0 && !self.fault.is(Fault::NumberZero) {
             plan.number = 1;
         }
         let number = plan.number;
         match upload.partial {
             _ if kind != FLIGHT => {}
-            true => self.state.jump_counts = [0; MAX_JUMPS],
+            true => self.go_on_flying(upload),
             false => self.state.restart_flight(),
         }
         number
@@ -473,7 +495,9 @@ impl Service {
         }
         let start = if fault.is(Fault::TimerNotRestarted) { upload.start } else { clock };
         plan.upload = Some(Upload { start, repeats: upload.repeats + 1, ..upload });
-        Some(Message::RequestInt { seq: upload.next, to: upload.station, kind })
+        let from_first = upload.partial && fault.is(Fault::PartialExpiryStart);
+        let seq = if from_first { upload.first } else { upload.next };
+        Some(Message::RequestInt { seq, to: upload.station, kind })
     }
 }
 

@@ -1,5 +1,6 @@
 //! The service's state and the ranges of its numbers.
 
+use crate::fault::Fault;
 use crate::layout::Address;
 use crate::limits::*;
 use crate::store::Shelf;
@@ -34,17 +35,22 @@ impl Upload {
     }
 
     /// True if its numbers are in their ranges, over a plan of this length.
-    fn in_range(&self, length: u16, size: u16) -> bool {
+    fn in_range(&self, length: u16, size: u16, fault: Fault) -> bool {
         let Upload { count, next, first, last, .. } = *self;
-        let taken = match self.partial {
-            true => count == length,
-            false => first == 0 && last == count.wrapping_sub(1),
+        let fits = match self.partial {
+            true => {
+                (count == length || fault.is(Fault::PartialAnyCount))
+                    && (first <= next || fault.is(Fault::PartialNextBelow))
+                    && next <= last
+                    && (last < count || fault.is(Fault::PartialAnyLast))
+            }
+            false => {
+                (first == 0 || fault.is(Fault::WholeAnyFirst))
+                    && (last == count.wrapping_sub(1) || fault.is(Fault::WholeAnyLast))
+                    && next < count
+            }
         };
-        taken
-            && (1..=size).contains(&count)
-            && (first..=last).contains(&next)
-            && last < count
-            && self.repeats <= MAX_REPEATS
+        fits && (1..=size).contains(&count) && self.repeats <= MAX_REPEATS
     }
 }
 
@@ -77,8 +83,8 @@ impl Plan {
         1 - self.half
     }
 
-    fn in_range(&self, size: u16) -> bool {
-        let upload_in_range = |upload: &Upload| upload.in_range(self.length, size);
+    fn in_range(&self, size: u16, fault: Fault) -> bool {
+        let upload_in_range = |upload: &Upload| upload.in_range(self.length, size, fault);
         self.length <= size && self.upload.as_ref().is_none_or(upload_in_range)
     }
 }
@@ -98,9 +104,9 @@ impl State {
     }
 
     /// True if every number is in its range (else outcome 15).
-    pub fn in_range(&self) -> bool {
+    pub fn in_range(&self, fault: Fault) -> bool {
         let plans = self.plans.iter().zip(PLAN_SIZE);
-        plans.into_iter().all(|(plan, size)| plan.in_range(size))
+        plans.into_iter().all(|(plan, size)| plan.in_range(size, fault))
             && (self.current == 0 || self.current < self.plans[FLIGHT].length)
             && self.jump_counts.iter().all(|count| *count <= MAX_JUMP_COUNT)
     }
@@ -136,7 +142,7 @@ mod tests {
     /// Whether a whole upload with these numbers is in range.
     fn whole_in_range(kind: usize, count: u16, next: u16, repeats: u8) -> bool {
         let upload = Upload { next, repeats, ..Upload::whole(Address::default(), count, 0) };
-        with_upload(kind, upload).in_range()
+        with_upload(kind, upload).in_range(Fault::None)
     }
 
     #[test]
@@ -144,9 +150,9 @@ mod tests {
         for (kind, size) in PLAN_SIZE.into_iter().enumerate() {
             let mut state = State::fresh();
             state.plans[kind].length = size;
-            assert!(state.in_range());
+            assert!(state.in_range(Fault::None));
             state.plans[kind].length += 1;
-            assert!(!state.in_range());
+            assert!(!state.in_range(Fault::None));
         }
     }
 
@@ -167,7 +173,7 @@ mod tests {
         assert_eq!((upload.first, upload.last), (0, 3));
         let in_range = |first, last| {
             let upload = Upload { next: 2, first, last, ..upload };
-            with_upload(RALLY, upload).in_range()
+            with_upload(RALLY, upload).in_range(Fault::None)
         };
         assert!(in_range(0, 3));
         assert!(![(1, 3), (0, 2), (0, 4), (u16::MAX, 3)].iter().any(|(f, l)| in_range(*f, *l)));
@@ -180,7 +186,7 @@ mod tests {
                 let upload = Upload::partial(Address::default(), count, (first, last), 0);
                 let mut state = with_upload(kind, Upload { next, repeats: 5, ..upload });
                 state.plans[kind].length = length;
-                state.in_range()
+                state.in_range(Fault::None)
             };
             let end = size - 1;
             for good in [[0, 0, 0], [0, 0, end], [0, end, end], [end; 3], [3, 5, 7]] {
@@ -199,15 +205,15 @@ mod tests {
     fn progress_ranges() {
         let mut state = State::fresh();
         state.current = 1;
-        assert!(!state.in_range());
+        assert!(!state.in_range(Fault::None));
         state.plans[FLIGHT].length = 2;
-        assert!(state.in_range());
+        assert!(state.in_range(Fault::None));
         state.current = 2;
-        assert!(!state.in_range());
+        assert!(!state.in_range(Fault::None));
         state.current = 0;
         state.jump_counts[14] = 32767;
-        assert!(state.in_range());
+        assert!(state.in_range(Fault::None));
         state.jump_counts[14] = 32768;
-        assert!(!state.in_range());
+        assert!(!state.in_range(Fault::None));
     }
 }

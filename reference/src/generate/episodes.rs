@@ -1,6 +1,7 @@
 //! Episodes: each drives the service into one part of its rules for some calls.
 
 use super::{values, Generator};
+use crate::fault::Fault;
 use crate::layout::*;
 use crate::limits::*;
 use crate::script::{field, record, Record};
@@ -11,7 +12,7 @@ type Episode = fn(&mut Generator);
 const EPISODES: &[(usize, Episode)] = &[
     (24, Generator::small_upload),
     (2, Generator::full_upload),
-    (48, Generator::edge_items),
+    (72, Generator::edge_items),
     (14, Generator::fence_upload),
     (14, Generator::fly),
     (8, Generator::fly_loop),
@@ -20,7 +21,7 @@ const EPISODES: &[(usize, Episode)] = &[
     (6, Generator::counts),
     (24, Generator::partial_upload),
     (12, Generator::ranges),
-    (12, Generator::edge_changes),
+    (16, Generator::edge_changes),
     (12, Generator::change_jumps),
     (12, Generator::change_fence),
     (12, Generator::change_on_the_way),
@@ -29,6 +30,7 @@ const EPISODES: &[(usize, Episode)] = &[
     (8, Generator::poke_change),
     (8, Generator::refusals),
     (8, Generator::out_of_range),
+    (12, Generator::bad_uploads),
     (6, Generator::poke_in_range),
     (4, Generator::poke_number),
     (12, Generator::host_writes_plan),
@@ -325,6 +327,24 @@ impl Generator {
         self.maybe_dump(1, 2);
     }
 
+    /// Uploads out of range, one after another, with calls that they hinder.
+    fn bad_uploads(&mut self) {
+        let kind = self.any_kind();
+        self.ensure_plan(kind);
+        let before = self.upload(kind);
+        for _ in 0..self.random.within(2, 6) {
+            let bad = self.bad_upload(kind);
+            self.poke_upload(kind, Some(bad));
+            match self.random.below(4) {
+                0 => self.dump(),
+                1 => self.any_timer(kind),
+                2 => self.move_in_bad_state(),
+                _ => self.any_request(kind),
+            }
+        }
+        self.poke_upload(kind, before);
+    }
+
     /// An upload with a number out of its range, whole or partial.
     pub(super) fn bad_upload(&mut self, kind: usize) -> Upload {
         if self.random.chance(1, 2) {
@@ -377,15 +397,15 @@ impl Generator {
 
     /// Pokes the progress back into its range, and ends uploads, if need be.
     pub(super) fn ensure_range(&mut self) {
-        if !self.state().in_range() {
+        if !self.state().in_range(Fault::None) {
             self.poke(field::CURRENT, 0, 0);
         }
         for kind in 0..KINDS {
-            if !self.state().in_range() && self.upload(kind).is_some() {
+            if !self.state().in_range(Fault::None) && self.upload(kind).is_some() {
                 self.poke_upload(kind, None);
             }
         }
-        if !self.state().in_range() {
+        if !self.state().in_range(Fault::None) {
             self.fresh();
         }
     }

@@ -15,7 +15,7 @@ const LONG_PLAN: u16 = 40;
 
 impl Generator {
     /// A plan that can be changed, if its kind has none, and sometimes another.
-    fn ensure_plan(&mut self, kind: usize) {
+    pub(super) fn ensure_plan(&mut self, kind: usize) {
         if self.length(kind) > 0 && !self.random.chance(1, 5) {
             return;
         }
@@ -196,7 +196,7 @@ impl Generator {
 
     /// A plan with about fifteen jumps, of which changes put in, take out and move some.
     pub(super) fn change_jumps(&mut self) {
-        let count = self.random.within(MAX_JUMPS + 2, 22) as u16;
+        let count = self.random.within(MAX_JUMPS + 2, 26) as u16;
         let jumps = self.random.pick(&[MAX_JUMPS - 2, MAX_JUMPS - 1, MAX_JUMPS, MAX_JUMPS]);
         let items = values::plan(&mut self.random, FLIGHT, count, jumps);
         self.upload_plan(FLIGHT, items);
@@ -220,10 +220,10 @@ impl Generator {
         let mut jumps: Vec<bool> = span.iter().map(|item| item.command == DO_JUMP).collect();
         jumps.reverse();
         for _ in 0..self.random.below(3) {
-            let changed = self.random.below(jumps.len());
-            let other = jumps.iter().position(|jump| !jump).unwrap_or(changed);
-            let one_more = self.random.chance(3, 4);
-            jumps[if one_more { other } else { changed }] = one_more;
+            let any = self.random.below(jumps.len());
+            let other = jumps.iter().position(|jump| !jump).unwrap_or(any);
+            let changed = self.random.pick(&[any, other]);
+            jumps[changed] = self.random.chance(3, 4);
         }
         for (number, (item, jump)) in (first..).zip(span.iter_mut().zip(jumps)) {
             *item = match jump {
