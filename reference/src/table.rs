@@ -311,8 +311,15 @@ impl<'a> Words<'a> {
         let (station, count) = (self.address()?, self.number("COUNT")?);
         let (next, start) = (self.number("NEXT")?, self.number("START")?);
         let repeats = self.number("REPEATS")?;
-        let upload = Upload { next, repeats, ..Upload::whole(station, count, start) };
-        Ok(Setting::Upload { kind, upload })
+        let whole = Upload { next, repeats, ..Upload::whole(station, count, start) };
+        let partial = match self.0.next() {
+            None => return Ok(Setting::Upload { kind, upload: whole }),
+            Some("W") => false,
+            Some("P") => true,
+            Some(word) => return Err(format!("{word}: neither W nor P")),
+        };
+        let (first, last) = (self.number("FIRST")?, self.number("LAST")?);
+        Ok(Setting::Upload { kind, upload: Upload { partial, first, last, ..whole } })
     }
 
     fn write(&mut self, written: u8) -> Result<Setting, String> {
@@ -498,8 +505,12 @@ mod tests {
         let plan = Setting::Plan { kind: 2, numbers: [33, u32::MAX, 1] };
         assert_eq!(set("a: k 2 33 4294967295 1"), Act::Set(plan));
         let upload = Upload { next: 1, repeats: 6, ..Upload::whole(address(255, 190), 2, 7) };
-        let upload = Setting::Upload { kind: 1, upload };
-        assert_eq!(set("a: r 1 255 190 2 1 7 6"), Act::Set(upload));
+        let row = |upload| Act::Set(Setting::Upload { kind: 1, upload });
+        assert_eq!(set("a: r 1 255 190 2 1 7 6"), row(upload));
+        let first_and_last = Upload { first: 3, last: 65535, ..upload };
+        assert_eq!(set("a: r 1 255 190 2 1 7 6 W 3 65535"), row(first_and_last));
+        let partial = Upload { partial: true, first: 1, last: 1, ..upload };
+        assert_eq!(set("a: r 1 255 190 2 1 7 6 P 1 1"), row(partial));
     }
 
     #[test]
@@ -549,6 +560,9 @@ mod tests {
         ("a: n 43 0 301 > 1", "LAST 301: above 300"),
         ("a: l 5665 54", "STORE 5665: above 5664"),
         ("a: k 0 1 1 2", "HALF 2: above 1"),
+        ("a: r 0 1 1 4 0 0 0 3", "3: neither W nor P"),
+        ("a: r 0 1 1 4 0 0 0 P 3", "LAST is missing"),
+        ("a: r 0 1 1 4 0 0 0 W 3 65536", "LAST 65536: no number that fits"),
         ("a: w 5664 01020304", "5664: cut words or items, or past the end"),
         ("a: w 0 010203", "0: cut words or items, or past the end"),
         ("a: h 2 0 01020304", "0: cut words or items, or past the end"),
