@@ -284,12 +284,12 @@ impl Generator {
         let to = self.target();
         let wire_kind = kind as u8;
         match self.random.below(7) {
-            6 => Message::WritePartialList { start: 0, end: 0, to, kind: wire_kind },
             0 => Message::Count { count: 0, to, kind: wire_kind, number: 0 },
             1 => Message::Count { count: 3, to, kind: wire_kind, number: 0 },
             2 => Message::ClearAll { to, kind: ALL_KINDS },
             3 => Message::Ack { to, result: 1, kind: wire_kind, number: 0 },
             4 => Message::SetCurrent { seq: 0, to },
+            5 => Message::WritePartialList { start: 0, end: 0, to, kind: wire_kind },
             _ => {
                 let item = self.expected_item(kind).unwrap_or_default();
                 Message::ItemInt(Item { to, kind: wire_kind, ..item })
