@@ -43,8 +43,8 @@ impl Service {
         Message::RequestInt { seq, to: sender, kind }
     }
 
-    /// The jumps that an item leaves room for: all, since the room is judged over the
-    /// whole.
+    /// The jumps that count against an item's room: none, since the room is judged
+    /// over the whole.
     pub(crate) fn jumps_beside(&self, upload: &Upload, store: &[u32]) -> usize {
         let Upload { count, next, first, .. } = *upload;
         let (plan, made) = (self.plan_shelf(FLIGHT), self.upload_shelf(FLIGHT));
