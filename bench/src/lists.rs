@@ -28,8 +28,9 @@ pub struct Writer {
     pub drone: Service,
     /// The items of each kind's upload.
     pub uploads: [Vec<Payload>; KINDS],
-    /// Until which call each kind has no uploads of full size.
+    /// Until which call each kind has no uploads of full size, and until which one its plan is only changed.
     pub quiet: [usize; KINDS],
+    pub changing: [usize; KINDS],
 }
 
 impl Writer {
@@ -42,6 +43,7 @@ impl Writer {
             drone: Service::fresh(),
             uploads: [const { Vec::new() }; KINDS],
             quiet: [0; KINDS],
+            changing: [0; KINDS],
         }
     }
 
@@ -100,28 +102,43 @@ impl Writer {
         self.started(sender, kind, items);
     }
 
-    /// Keeps the items of an upload that a COUNT has just started.
+    /// Announces that items change, from the first one's number on.
+    pub fn change(&mut self, sender: Station, kind: usize, first: usize, items: Vec<Payload>) {
+        let ends = (first as i16, (first + items.len() - 1) as i16);
+        self.send(sender, WRITE_PARTIAL_LIST, &change(ends, kind as u8));
+        self.started(sender, kind, items);
+    }
+
+    /// Keeps the items of an upload that has just been started.
     pub fn started(&mut self, sender: Station, kind: usize, items: Vec<Payload>) {
-        let upload = self.drone.plans[kind].upload;
         let starts = |upload: Upload| {
-            upload.station == sender && upload.next == 0 && usize::from(upload.count) == items.len()
+            let asked = upload.first..=upload.last;
+            upload.station == sender && upload.next == upload.first && asked.eq(numbers(&items))
         };
-        if upload.is_some_and(starts) {
+        if self.drone.plans[kind].upload.is_some_and(starts) {
             self.uploads[kind] = items;
         }
     }
 
-    /// The item that an upload expects, and its station.
+    /// The station of an upload, and how many items it has taken.
     pub fn expected(&self, kind: usize) -> Option<(Station, usize)> {
         let upload = self.drone.plans[kind].upload?;
-        Some((upload.station, usize::from(upload.next)))
+        Some((upload.station, usize::from(upload.next - upload.first)))
     }
 
     /// Sends the item that is expected, if there is an upload.
     pub fn item(&mut self, kind: usize) {
-        if let Some((station, next)) = self.expected(kind) {
-            let item = self.uploads[kind][next];
+        if let Some((station, taken)) = self.expected(kind) {
+            let item = self.uploads[kind][taken];
             self.send(station, ITEM_INT, &item);
+        }
+    }
+
+    /// Sends all the items that an upload expects, one after another.
+    fn items(&mut self, kind: usize) {
+        while self.more() && self.expected(kind).is_some() {
+            self.later(5);
+            self.item(kind);
         }
     }
 
@@ -131,7 +148,18 @@ impl Writer {
     }
 }
 
-/// Flight plans with fifteen jumps at the end or at the start, and with one more, which is refused; each is uploaded and read.
+fn numbers(items: &[Payload]) -> impl Iterator<Item = u16> + '_ {
+    items.iter().map(|item| u16::from_le_bytes([item[28], item[29]]))
+}
+
+/// A WRITE_PARTIAL_LIST's bytes: items from one number to another change.
+pub fn change((start, end): (i16, i16), kind: u8) -> [u8; 7] {
+    let ([s0, s1], [e0, e1]) = (start.to_le_bytes(), end.to_le_bytes());
+    [s0, s1, e0, e1, OWN.system, OWN.component, kind]
+}
+
+/// Flight plans with fifteen jumps at the end or at the start, and with one more, which is refused; each is uploaded and read. Then jumps of the plan that
+/// stands are changed: some have other targets, and more of them are refused.
 fn jumps(calls: usize) -> Vec<u8> {
     let mut writer = Writer::new(calls, 2);
     let station = STATIONS[0];
@@ -141,10 +169,12 @@ fn jumps(calls: usize) -> Vec<u8> {
             break;
         }
         let items = flight(&mut writer.random, 256, |seq| shape.contains(&seq));
+        let changed = flight(&mut writer.random, 256, |seq| shape.contains(&seq));
         writer.count(station, FLIGHT, items);
-        while writer.more() && writer.expected(FLIGHT).is_some() {
-            writer.later(5);
-            writer.item(FLIGHT);
+        writer.items(FLIGHT);
+        for first in [shape.start, 128] {
+            writer.change(station, FLIGHT, first, changed[first..first + 3].to_vec());
+            writer.items(FLIGHT);
         }
         writer.send(station, REQUEST_LIST, &[OWN.system, OWN.component, FLIGHT as u8]);
         for seq in 0..writer.drone.plans[FLIGHT].length {

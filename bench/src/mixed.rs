@@ -3,8 +3,8 @@
 use bench::service::*;
 use bench::slots::MOST_PAYLOAD;
 
-use crate::lists::{Writer, STATIONS};
-use crate::plans::{changed, item, plan, OWN};
+use crate::lists::{change, Writer, STATIONS};
+use crate::plans::{changed, item, plan, Payload, OWN};
 
 pub fn mixed(calls: usize) -> Vec<u8> {
     let mut writer = Writer::new(calls, 1);
@@ -14,14 +14,15 @@ pub fn mixed(calls: usize) -> Vec<u8> {
         if writer.random.one_in(2_000) {
             writer.later(250);
         }
-        match writer.random.below(8) {
+        match writer.random.below(9) {
             0 => writer.some_timer(),
-            1 => writer.some_set_current(),
-            2 => writer.some_request_list(),
-            3 => writer.some_count(),
-            4 => writer.some_clear_all(),
-            5 => writer.some_ack(),
-            6 => writer.some_request_int(),
+            1 => writer.some_change(),
+            2 => writer.some_set_current(),
+            3 => writer.some_request_list(),
+            4 => writer.some_count(),
+            5 => writer.some_clear_all(),
+            6 => writer.some_ack(),
+            7 => writer.some_request_int(),
             _ => writer.some_item(),
         }
     }
@@ -109,8 +110,12 @@ impl Writer {
         self.made() < self.quiet[kind]
     }
 
-    /// Starts an upload of full size of an idle kind. While one runs, other stations are denied; in a quiet kind plans are emptied, short ones are begun, and
-    /// their stations begin again.
+    fn is_changing(&self, kind: usize) -> bool {
+        self.made() < self.changing[kind]
+    }
+
+    /// Starts an upload of full size of an idle kind whose plan may be replaced. While one runs, other stations are denied; in a quiet kind plans are emptied, short
+    /// ones are begun, and their stations begin again.
     fn some_count(&mut self) {
         let kind = self.random.below(KINDS);
         let own = self.is_quiet(kind) || self.random.one_in(5_000);
@@ -120,6 +125,7 @@ impl Writer {
         };
         let size = usize::from(SIZES[kind]);
         let count = match self.random.below(10) {
+            0..=9 if self.is_changing(kind) => size + 1 + self.random.below(400),
             0 => 0,
             1 => size + 1 + self.random.below(400),
             2..=9 if self.is_quiet(kind) => 1 + self.random.below(4),
@@ -136,6 +142,44 @@ impl Writer {
             }
             self.started(sender, kind, items);
         }
+    }
+
+    /// Starts a change of a few items of an idle kind's plan. While an upload runs, other stations are denied; in a quiet kind the station itself begins to change
+    /// items, whole uploads then ending. Some ranges are not in the plan.
+    fn some_change(&mut self) {
+        let kind = self.random.below(KINDS);
+        let own = self.is_quiet(kind) || self.random.one_in(5_000);
+        let sender = match self.expected(kind) {
+            Some((station, _)) if own => station,
+            _ => self.another_station(kind),
+        };
+        let length = usize::from(self.drone.plans[kind].length);
+        let start = self.random.below(length.max(1));
+        let end = (start + self.random.below(4)).min(length.max(1) - 1);
+        let ends = match self.random.below(20) {
+            0 => (end as i16 + 1, end as i16),
+            1 => (start as i16, length as i16),
+            2 => (-1, end as i16),
+            _ => (start as i16, end as i16),
+        };
+        let shown = if self.random.one_in(100) { 5 } else { kind as u8 };
+        self.send_somehow(sender, WRITE_PARTIAL_LIST, &change(ends, shown), 4);
+        if self.expected(kind) == Some((sender, 0)) && length > 0 {
+            let items = (start..=end).map(|seq| self.elsewhere(kind, seq)).collect();
+            self.started(sender, kind, items);
+        }
+    }
+
+    /// An item of a plan at another place; one in ten is another item of the kind.
+    fn elsewhere(&mut self, kind: usize, seq: usize) -> Payload {
+        if self.random.one_in(10) {
+            let length = usize::from(self.drone.plans[kind].length);
+            return plan(&mut self.random, kind, length)[seq];
+        }
+        let mut item = self.drone.stored(kind, seq);
+        item[32..34].copy_from_slice(&[OWN.system, OWN.component]);
+        item[16..20].copy_from_slice(&(self.random.below(900_000_000) as i32).to_le_bytes());
+        item
     }
 
     /// Clears quiet kinds; else mostly denied, since another station uploads a kind that is covered.
@@ -185,15 +229,15 @@ impl Writer {
         self.send_somehow(sender, REQUEST_INT, &[s0, s1, OWN.system, OWN.component, shown], 2);
     }
 
-    /// Mostly the item that an upload expects; some are out of turn, some another station's, and few are invalid but in a quiet kind. After an upload of full size
-    /// its kind may be quiet for a while.
+    /// Mostly the item that an upload expects; some are out of turn, some another station's, and few are invalid but in a quiet kind. After a whole upload of full
+    /// size its kind may be quiet for a while, or its plan only changed.
     fn some_item(&mut self) {
         let kind = self.kind_by_size(|plan| plan.upload.is_some());
-        let Some((station, next)) = self.expected(kind) else {
+        let Some((station, taken)) = self.expected(kind) else {
             let sender = self.some_station();
             return self.send_somehow(sender, ITEM_INT, &item(kind, 0, 16, 3, [0.0; 4]), 32);
         };
-        let expected = self.uploads[kind][next];
+        let expected = self.uploads[kind][taken];
         let other = self.random.of(&self.uploads[kind]);
         let (sender, sent) = match self.random.below(5_000) {
             0 => (station, changed(&mut self.random, expected)),
@@ -203,9 +247,14 @@ impl Writer {
             301..=3_000 if self.is_quiet(kind) => (station, changed(&mut self.random, expected)),
             _ => (station, expected),
         };
+        let whole = self.drone.plans[kind].upload.is_some_and(|upload| !upload.partial);
         self.send_somehow(sender, ITEM_INT, &sent, 32);
-        if self.expected(kind).is_none() && !self.is_quiet(kind) && self.random.one_in(2) {
-            self.quiet[kind] = self.made() + self.random.below(2_000);
+        if whole && self.expected(kind).is_none() && !self.is_quiet(kind) {
+            match self.random.below(4) {
+                0 | 1 => self.quiet[kind] = self.made() + self.random.below(2_000),
+                2 => self.changing[kind] = self.made() + self.random.below(2_000),
+                _ => {}
+            }
         }
     }
 }

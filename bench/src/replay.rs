@@ -24,21 +24,24 @@ const BRIEF: (usize, Runs) = (20_000, Runs { programs: 1, services: 1 });
 const EDGE_CALLS: usize = 2_000;
 
 /// The ids that the service reads.
-const IDS: [u32; 7] = [SET_CURRENT, REQUEST_LIST, COUNT, CLEAR_ALL, ACK, REQUEST_INT, ITEM_INT];
+const IDS: [u32; 8] =
+    [WRITE_PARTIAL_LIST, SET_CURRENT, REQUEST_LIST, COUNT, CLEAR_ALL, ACK, REQUEST_INT, ITEM_INT];
 const KIND_NAMES: [&str; KINDS] = ["flight", "fence", "rally"];
 
-/// What stands in a list: calls by id, timer calls, calls of other ids, and completed uploads of full size by kind.
+/// What stands in a list: calls by id, timer calls, calls of other ids, and by kind completed uploads, whole ones of full size and partial ones.
 #[derive(Default)]
 struct Seen {
     ids: [usize; IDS.len()],
     timers: usize,
     others: usize,
     uploads: [usize; KINDS],
+    partial: [usize; KINDS],
 }
 
 /// Counts in a list, by its calls and by what they returned.
 fn seen(calls: &[u8], told: &[u8]) -> Seen {
     let mut seen = Seen::default();
+    let mut started_by = [COUNT; KINDS];
     for (call, told) in calls.as_chunks().0.iter().zip(told.as_chunks().0) {
         let id = slots::id(call);
         if call[0] != MESSAGE {
@@ -48,20 +51,31 @@ fn seen(calls: &[u8], told: &[u8]) -> Seen {
         } else {
             seen.others += 1;
         }
-        if let Some(kind) = completed(call, told) {
-            seen.uploads[kind] += 1;
+        if let Some(kind) = started(call, told) {
+            started_by[kind] = id;
+        }
+        match completed(call, told) {
+            Some((kind, _)) if started_by[kind] == WRITE_PARTIAL_LIST => seen.partial[kind] += 1,
+            Some((kind, count)) if count == SIZES[kind] => seen.uploads[kind] += 1,
+            _ => {}
         }
     }
     seen
 }
 
-/// The kind of an upload of full size that a call completed: the last item of the largest number was answered with ACK 0.
-fn completed(call: &[u8; SLOT], told: &[u8; SLOT]) -> Option<usize> {
+/// The kind of an upload that a call started: it was answered with a request.
+fn started(call: &[u8; SLOT], told: &[u8; SLOT]) -> Option<usize> {
+    let starts = call[0] == MESSAGE && [COUNT, WRITE_PARTIAL_LIST].contains(&slots::id(call));
+    (starts && slots::id_told(told) == REQUEST_INT).then_some(usize::from(told[12]))
+}
+
+/// The kind of an upload that a call completed, and how many items there are up to its last one: this was answered with ACK 0.
+fn completed(call: &[u8; SLOT], told: &[u8; SLOT]) -> Option<(usize, u16)> {
     let is_item = call[0] == MESSAGE && slots::id(call) == ITEM_INT;
     let seq = u16::from_le_bytes([call[44], call[45]]);
     let (result, kind) = (told[10], usize::from(told[11]));
     let accepted = told[0] == 0 && slots::id_told(told) == ACK && result == 0;
-    (is_item && accepted && seq + 1 == SIZES[kind]).then_some(kind)
+    (is_item && accepted).then_some((kind, seq + 1))
 }
 
 impl Seen {
@@ -74,15 +88,18 @@ impl Seen {
             self.timers,
             self.others
         );
-        let uploads: Vec<String> =
-            KIND_NAMES.iter().zip(self.uploads).map(|(kind, n)| format!("{kind} {n}")).collect();
-        println!("{name:<7} full-size uploads completed: {}", uploads.join(", "));
+        let by_kind = |counts: [usize; KINDS]| {
+            let counts = KIND_NAMES.iter().zip(counts).map(|(kind, n)| format!("{kind} {n}"));
+            counts.collect::<Vec<String>>().join(", ")
+        };
+        println!("{name:<7} full-size uploads completed: {}", by_kind(self.uploads));
+        println!("{name:<7} partial uploads completed: {}", by_kind(self.partial));
     }
 
-    /// Whether every id, the timer and full-size uploads of every kind are there.
+    /// Whether every id, the timer, and full-size and partial uploads of every kind are there.
     fn all_there(&self) -> bool {
-        let counts = self.ids.iter().chain(&self.uploads).chain([&self.timers]);
-        counts.copied().all(|count| count > 0)
+        let uploads = self.uploads.iter().chain(&self.partial);
+        self.ids.iter().chain(uploads).chain([&self.timers]).all(|count| *count > 0)
     }
 }
 
@@ -132,7 +149,7 @@ fn measure(
     let seen = seen(calls, &same_replies(calls)?);
     seen.print(name);
     if name == "mixed" && !seen.all_there() {
-        return Err("the list mixed lacks an id, the timer or an upload of full size".to_string());
+        return Err("the list mixed lacks an id, the timer or an upload".to_string());
     }
     let whole = programs.play_list(runs.programs, calls)?;
     let alone = play_services(runs.services, calls);

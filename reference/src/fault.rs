@@ -1,7 +1,7 @@
 //! Faults that can be planted in the reference. A comparison that does not find
 //! a planted fault is too weak.
 
-use crate::layout::{full_length, ACK, CLEAR_ALL, COUNT, ITEM_INT, REQUEST_INT, REQUEST_LIST};
+use crate::layout::*;
 
 macro_rules! faults {
     ($($case:ident $name:literal $what:literal)*) => {
@@ -84,6 +84,39 @@ faults! {
     KindNotPutBack "kind-not-put-back" "a stored item's kind is 0"
     ShortAt5632 "short-at-5632" "5632 words of store are too short"
     LongAt5631 "long-at-5631" "5631 words of store suffice"
+    PartialFromZero "partial-from-0" "a partial upload requests item 0 first"
+    PartialStartPastEnd "partial-start-past-end" "a partial upload's start may be past its end"
+    PartialEndAtLength "partial-end-at-length" "a partial upload's end may be the plan's length"
+    PartialNegative "partial-negative" "a partial upload's start may be below 0"
+    PartialKeepsUpload "partial-keeps-upload" "a range outside the plan leaves the station's upload"
+    PartialForeignRange "partial-foreign-range" "another station's range outside the plan gets 13"
+    PartialExpiryStart "partial-expiry-start" "an expiry requests a partial upload's first item"
+    PartialItemByItem "partial-item-by-item" "each item of a partial upload changes the plan"
+    PartialPlaceEarly "partial-place-early" "a partial upload's items are put in one place early"
+    PartialLosesBefore "partial-loses-before" "the items before a partial upload's first are lost"
+    PartialLosesBehind "partial-loses-behind" "the items behind a partial upload's last are lost"
+    PartialOldJudged "partial-old-judged" "items that a partial upload leaves are judged"
+    PartialTargetsToEnd "partial-targets-to-end" "jump targets are judged against a range's end"
+    PartialRoomEach "partial-room-each" "a partial upload judges the jump room at each item"
+    PartialSpaceIs5 "partial-space-is-5" "jumps too many in a partial upload get 5"
+    PartialJumpsSent "partial-jumps-sent" "a partial upload counts the jumps of its own items"
+    PartialJumpsOld "partial-jumps-old" "a partial upload counts the jumps of the old plan"
+    PartialJumpsBoth "partial-jumps-both" "a partial upload counts the jumps that it replaces too"
+    PartialLastJump "partial-last-jump" "jumps too many get 4 only if the last item is one"
+    PartialFenceFree "partial-fence-free" "a partial upload is not put to the fence rule"
+    PartialFenceSent "partial-fence-sent" "a partial upload's own items are put to the fence rule"
+    PartialRefusedStays "partial-refused-stays" "a partial upload goes on after 4 or 5"
+    PartialKeepsNumber "partial-keeps-number" "a partial upload leaves the plan number"
+    PartialResetsCurrent "partial-resets-current" "a partial upload makes item 0 current"
+    PartialResetsBegun "partial-resets-begun" "a partial upload makes the flight not begun"
+    PartialCurrentLost "partial-current-lost" "replacing the current item restarts the flight"
+    PartialAllIsWhole "partial-all-is-whole" "a partial upload of all items restarts the flight"
+    PartialKeepsCounts "partial-keeps-counts" "a partial upload leaves the jump counts"
+    PartialAnyCount "partial-any-count" "a partial upload's count may differ from the length"
+    PartialNextBelow "partial-next-below" "a partial upload's next number may be below its first"
+    PartialAnyLast "partial-any-last" "a partial upload's last number may be past its count"
+    WholeAnyFirst "whole-any-first" "a whole upload's first number may differ from 0"
+    WholeAnyLast "whole-any-last" "a whole upload's last number may differ from its end"
     MoveShortAt26752 "move-short-at-26752" "26752 bytes of old store are too short for the move"
     MoveLongAt26751 "move-long-at-26751" "26751 bytes of old store suffice for the move"
     MoveNewUnjudged "move-new-unjudged" "the move does not judge the new store's length"
@@ -117,6 +150,7 @@ pub fn kind_from_last_byte(id: u32, payload: &[u8]) -> Vec<u8> {
         REQUEST_LIST | CLEAR_ALL => 2,
         ACK => 3,
         COUNT | REQUEST_INT => 4,
+        WRITE_PARTIAL_LIST => 6,
         ITEM_INT => 37,
         _ => return payload.to_vec(),
     };

@@ -2,6 +2,7 @@
 
 use crate::limits::{ITEM_BYTES, REPLY_BYTES};
 
+pub const WRITE_PARTIAL_LIST: u32 = 38;
 pub const SET_CURRENT: u32 = 41;
 pub const CURRENT: u32 = 42;
 pub const REQUEST_LIST: u32 = 43;
@@ -13,11 +14,12 @@ pub const ITEM_INT: u32 = 73;
 pub const STATUSTEXT: u32 = 253;
 
 /// Ids that the service reads.
-pub const READ_IDS: [u32; 7] =
-    [SET_CURRENT, REQUEST_LIST, COUNT, CLEAR_ALL, ACK, REQUEST_INT, ITEM_INT];
+pub const READ_IDS: [u32; 8] =
+    [WRITE_PARTIAL_LIST, SET_CURRENT, REQUEST_LIST, COUNT, CLEAR_ALL, ACK, REQUEST_INT, ITEM_INT];
 
 /// Each message's id and full length.
-const FULL_LENGTHS: [(u32, usize); 9] = [
+const FULL_LENGTHS: [(u32, usize); 10] = [
+    (WRITE_PARTIAL_LIST, 7),
     (SET_CURRENT, 4),
     (CURRENT, 18),
     (REQUEST_LIST, 3),
@@ -102,60 +104,114 @@ impl Item {
 /// A message with its fields; `to` is the target system and component.
 #[derive(Clone, Copy, Debug, PartialEq, Eq)]
 pub enum Message {
-    SetCurrent { seq: u16, to: Address },
-    Current { seq: u16, total: u16, state: u8, mode: u8, numbers: [u32; 3] },
-    RequestList { to: Address, kind: u8 },
-    Count { count: u16, to: Address, kind: u8, number: u32 },
-    ClearAll { to: Address, kind: u8 },
-    Ack { to: Address, result: u8, kind: u8, number: u32 },
-    RequestInt { seq: u16, to: Address, kind: u8 },
+    /// Items `start` to `end` of a plan are to be changed (request M-108).
+    WritePartialList {
+        start: i16,
+        end: i16,
+        to: Address,
+        kind: u8,
+    },
+    SetCurrent {
+        seq: u16,
+        to: Address,
+    },
+    Current {
+        seq: u16,
+        total: u16,
+        state: u8,
+        mode: u8,
+        numbers: [u32; 3],
+    },
+    RequestList {
+        to: Address,
+        kind: u8,
+    },
+    Count {
+        count: u16,
+        to: Address,
+        kind: u8,
+        number: u32,
+    },
+    ClearAll {
+        to: Address,
+        kind: u8,
+    },
+    Ack {
+        to: Address,
+        result: u8,
+        kind: u8,
+        number: u32,
+    },
+    RequestInt {
+        seq: u16,
+        to: Address,
+        kind: u8,
+    },
     ItemInt(Item),
-    StatusText { severity: u8, text: [u8; TEXT_BYTES], id: u16, chunk: u8 },
+    StatusText {
+        severity: u8,
+        text: [u8; TEXT_BYTES],
+        id: u16,
+        chunk: u8,
+    },
 }
 
 impl Message {
     /// Reads a payload of any length; none for an id without a layout.
     pub fn read(id: u32, payload: &[u8]) -> Option<Message> {
         let b = zero_filled(payload, full_length(id)?);
-        Some(match id {
-            SET_CURRENT => Message::SetCurrent { seq: get_u16(&b, 0), to: get_address(&b, 2) },
-            CURRENT => Message::Current {
+        match id {
+            CURRENT => Some(Message::Current {
                 seq: get_u16(&b, 0),
                 total: get_u16(&b, 2),
                 state: b[4],
                 mode: b[5],
                 numbers: [6, 10, 14].map(|at| get_u32(&b, at)),
-            },
-            REQUEST_LIST => Message::RequestList { to: get_address(&b, 0), kind: b[2] },
-            COUNT => Message::Count {
-                count: get_u16(&b, 0),
-                to: get_address(&b, 2),
-                kind: b[4],
-                number: get_u32(&b, 5),
-            },
-            CLEAR_ALL => Message::ClearAll { to: get_address(&b, 0), kind: b[2] },
-            ACK => Message::Ack {
-                to: get_address(&b, 0),
-                result: b[2],
-                kind: b[3],
-                number: get_u32(&b, 4),
-            },
-            REQUEST_INT => {
-                Message::RequestInt { seq: get_u16(&b, 0), to: get_address(&b, 2), kind: b[4] }
-            }
-            ITEM_INT => Message::ItemInt(Item::from_bytes(&array(&b, 0))),
-            STATUSTEXT => Message::StatusText {
+            }),
+            STATUSTEXT => Some(Message::StatusText {
                 severity: b[0],
                 text: array(&b, 1),
                 id: get_u16(&b, 51),
                 chunk: b[53],
+            }),
+            _ => Message::read_with_target(id, &b),
+        }
+    }
+
+    fn read_with_target(id: u32, b: &[u8; REPLY_BYTES]) -> Option<Message> {
+        Some(match id {
+            WRITE_PARTIAL_LIST => Message::WritePartialList {
+                start: get_i16(b, 0),
+                end: get_i16(b, 2),
+                to: get_address(b, 4),
+                kind: b[6],
             },
+            SET_CURRENT => Message::SetCurrent { seq: get_u16(b, 0), to: get_address(b, 2) },
+            REQUEST_LIST => Message::RequestList { to: get_address(b, 0), kind: b[2] },
+            COUNT => Message::Count {
+                count: get_u16(b, 0),
+                to: get_address(b, 2),
+                kind: b[4],
+                number: get_u32(b, 5),
+            },
+            CLEAR_ALL => Message::ClearAll { to: get_address(b, 0), kind: b[2] },
+            ACK => Message::Ack {
+                to: get_address(b, 0),
+                result: b[2],
+                kind: b[3],
+                number: get_u32(b, 4),
+            },
+            REQUEST_INT => {
+                Message::RequestInt { seq: get_u16(b, 0), to: get_address(b, 2), kind: b[4] }
+            }
+            ITEM_INT => Message::ItemInt(Item::from_bytes(&array(b, 0))),
             _ => return None,
         })
     }
 
     pub fn id(&self) -> u32 {
         match self {
+            Message::WritePartialList { .. } => WRITE_PARTIAL_LIST,
             Message::SetCurrent { .. } => SET_CURRENT,
             Message::Current { .. } => CURRENT,
             Message::RequestList { .. } => REQUEST_LIST,
@@ -171,7 +227,8 @@ impl Message {
     /// Target system and component; 0/0 for the messages without a target.
     pub fn to(&self) -> Address {
         match self {
-            Message::SetCurrent { to, .. }
+            Message::WritePartialList { to, .. }
+            | Message::SetCurrent { to, .. }
             | Message::RequestList { to, .. }
             | Message::Count { to, .. }
             | Message::ClearAll { to, .. }
@@ -186,10 +243,6 @@ impl Message {
     pub fn write(&self) -> Payload {
         let mut b = [0; REPLY_BYTES];
         match self {
-            Message::SetCurrent { seq, to } => {
-                put_u16(&mut b, 0, *seq);
-                put_address(&mut b, 2, *to);
-            }
             Message::Current { seq, total, state, mode, numbers } => {
                 put_u16(&mut b, 0, *seq);
                 put_u16(&mut b, 2, *total);
@@ -199,37 +252,54 @@ impl Message {
                     put_u32(&mut b, 6 + 4 * i, *number);
                 }
             }
-            Message::RequestList { to, kind } | Message::ClearAll { to, kind } => {
-                put_address(&mut b, 0, *to);
-                b[2] = *kind;
-            }
-            Message::Count { count, to, kind, number } => {
-                put_u16(&mut b, 0, *count);
-                put_address(&mut b, 2, *to);
-                b[4] = *kind;
-                put_u32(&mut b, 5, *number);
-            }
-            Message::Ack { to, result, kind, number } => {
-                put_address(&mut b, 0, *to);
-                b[2] = *result;
-                b[3] = *kind;
-                put_u32(&mut b, 4, *number);
-            }
-            Message::RequestInt { seq, to, kind } => {
-                put_u16(&mut b, 0, *seq);
-                put_address(&mut b, 2, *to);
-                b[4] = *kind;
-            }
-            Message::ItemInt(item) => b[..ITEM_BYTES].copy_from_slice(&item.to_bytes()),
             Message::StatusText { severity, text, id, chunk } => {
                 b[0] = *severity;
                 b[1..1 + TEXT_BYTES].copy_from_slice(text);
                 put_u16(&mut b, 51, *id);
                 b[53] = *chunk;
             }
+            _ => self.write_with_target(&mut b),
         }
         let full = full_length(self.id()).unwrap_or(REPLY_BYTES);
         Payload { bytes: b, full }
+    }
+
+    fn write_with_target(&self, b: &mut [u8; REPLY_BYTES]) {
+        match self {
+            Message::WritePartialList { start, end, to, kind } => {
+                put_u16(b, 0, *start as u16);
+                put_u16(b, 2, *end as u16);
+                put_address(b, 4, *to);
+                b[6] = *kind;
+            }
+            Message::SetCurrent { seq, to } => {
+                put_u16(b, 0, *seq);
+                put_address(b, 2, *to);
+            }
+            Message::RequestList { to, kind } | Message::ClearAll { to, kind } => {
+                put_address(b, 0, *to);
+                b[2] = *kind;
+            }
+            Message::Count { count, to, kind, number } => {
+                put_u16(b, 0, *count);
+                put_address(b, 2, *to);
+                b[4] = *kind;
+                put_u32(b, 5, *number);
+            }
+            Message::Ack { to, result, kind, number } => {
+                put_address(b, 0, *to);
+                b[2] = *result;
+                b[3] = *kind;
+                put_u32(b, 4, *number);
+            }
+            Message::RequestInt { seq, to, kind } => {
+                put_u16(b, 0, *seq);
+                put_address(b, 2, *to);
+                b[4] = *kind;
+            }
+            Message::ItemInt(item) => b[..ITEM_BYTES].copy_from_slice(&item.to_bytes()),
+            Message::Current { .. } | Message::StatusText { .. } => {}
+        }
     }
 }
 
@@ -271,6 +341,10 @@ fn array<const N: usize>(bytes: &[u8], at: usize) -> [u8; N] {
 
 fn get_u16(bytes: &[u8], at: usize) -> u16 {
     u16::from_le_bytes(array(bytes, at))
+}
+
+fn get_i16(bytes: &[u8], at: usize) -> i16 {
+    i16::from_le_bytes(array(bytes, at))
 }
 
 fn get_u32(bytes: &[u8], at: usize) -> u32 {
@@ -315,6 +389,11 @@ mod tests {
 
     #[test]
     fn mavlink_test_values() {
+        both_ways(
+            38,
+            "5343bb43115497",
+            Message::WritePartialList { start: 17235, end: 17339, to: address(17, 84), kind: 151 },
+        );
         both_ways(41, "53438bce", Message::SetCurrent { seq: 17235, to: address(139, 206) });
         both_ways(
             42,
@@ -382,6 +461,9 @@ mod tests {
         assert_eq!(Message::read(44, &[0, 1]), Some(count));
         let list = Message::RequestList { to: address(1, 2), kind: 1 };
         assert_eq!(Message::read(43, &[1, 2, 1, 9, 9, 9]), Some(list));
+        let signed =
+            Message::WritePartialList { start: -1, end: -32768, to: address(1, 0), kind: 0 };
+        assert_eq!(Message::read(38, &[0xFF, 0xFF, 0, 0x80, 1]), Some(signed));
         assert_eq!(Message::read(46, &[0]), None);
         assert_eq!(Message::read(300, &[0]), None);
     }

@@ -73,6 +73,9 @@ fn said(step: &Step) -> String {
     };
     let words = match message {
         Message::Count { count, kind, .. } => format!("COUNT, {count} {} items", kind_name(*kind)),
+        Message::WritePartialList { start, end, kind, .. } => {
+            format!("WRITE_PARTIAL_LIST, {} items {start} to {end} change", kind_name(*kind))
+        }
         Message::ItemInt(item) => {
             format!("ITEM_INT, {} {}", kind_name(item.kind), item_words(item))
         }
@@ -202,6 +205,7 @@ pub fn from_hex(digits: &str) -> Option<Vec<u8>> {
 mod tests {
     use super::*;
     use crate::story;
+    use std::fs;
 
     fn words(text: &str) -> String {
         let parts = story::read(text).unwrap();
@@ -224,6 +228,25 @@ mod tests {
              tablet 255/190 says: REQUEST_LIST, which flight plan stands?\n  \
              drone answers 255/190: 1 flight items, plan number 1\n"
         );
+    }
+
+    #[test]
+    fn a_change() {
+        let plan = ">1 count 255 rally 1\n>2 item 255 rally 0 5100 47.62 9.372\n";
+        let text = words(&format!("{plan}>3 change 255 rally 0 0\n>4 change 254 rally 0 0\n"));
+        let change = "WRITE_PARTIAL_LIST, rally items 0 to 0 change\n  drone answers";
+        let shown = format!(
+            "tablet 255/190 says: {change} 255/190: please send rally item 0\n\
+             tablet 254/190 says: {change} 254/190: denied (ACK 14)\n"
+        );
+        assert!(text.ends_with(&shown), "{text}");
+    }
+
+    #[test]
+    fn the_letter_is_told_as_it_is_kept() {
+        let folder = concat!(env!("CARGO_MANIFEST_DIR"), "/../letter");
+        let text = |name: &str| fs::read_to_string(format!("{folder}/{name}")).unwrap();
+        assert_eq!(words(&text("story.txt")), text("told.txt"));
     }
 
     #[test]

@@ -11,6 +11,7 @@ pub mod letter;
 pub mod limits;
 pub mod moved;
 pub mod moves;
+pub mod partial;
 pub mod player;
 pub mod random;
 pub mod script;

@@ -3,9 +3,11 @@
 //! printed. The script has one DUMP: the state and the items that this shows are
 //! put into the old store and moved, and the calls behind it are made again.
 
+use crate::layout::address;
 use crate::letter::from_hex;
 use crate::limits::*;
 use crate::script::{field, read_if, record, script_bytes, target, Next, Record};
+use crate::state::Upload;
 use crate::store::Shelf;
 
 /// What the stores are filled with before the items are put in.
@@ -140,8 +142,11 @@ fn pokes(letter: &str, numbers: &[u32]) -> Option<Vec<Record>> {
         ("k", [kind, length, number, _, half]) => {
             Some(Record::pokes(field::LENGTH, *kind as u8, &[*length, *number, *half]))
         }
-        ("u", [kind, upload @ ..]) => {
-            Some(Record::pokes(field::RUNNING, *kind as u8, &[&[1], upload].concat()))
+        ("u", [kind, system, component, count, next, start, repeats]) => {
+            let station = address(*system as u8, *component as u8);
+            let upload = Upload::whole(station, *count as u16, *start);
+            let upload = Upload { next: *next as u16, repeats: *repeats as u8, ..upload };
+            Some(Record::upload_pokes(*kind as u8, Some(upload)))
         }
         ("c", [current, begun, counts @ ..]) => {
             let mut records = Record::pokes(field::CURRENT, 0, &[*current, *begun]);

@@ -40,8 +40,8 @@ fn refusal(state: &State, old_len: usize, new_len: usize, fault: Fault) -> Optio
     };
     let new_short = new_len < STORE_WORDS && !fault.is(Fault::MoveNewUnjudged);
     let in_range = match fault {
-        Fault::MoveUploadsUnjudged => without_uploads(state).in_range(),
-        _ => state.in_range(),
+        Fault::MoveUploadsUnjudged => without_uploads(state).in_range(fault),
+        _ => state.in_range(fault),
     };
     let mut reasons = [
         (old_len < least_old || new_short, outcome::SHORT_STORE),
@@ -97,16 +97,22 @@ fn old_item(old: &[u8], place: usize) -> Item {
 #[cfg(test)]
 mod tests {
     use super::*;
+    use crate::layout::Address;
     use crate::state::Upload;
     use crate::store::words_of;
 
     const FILL: u32 = 0xEEEE_EEEE;
 
-    /// Plans of two items in both halves, an upload of each kind, and progress.
+    /// Plans of two items in both halves, an upload of each kind, the rally plan's
+    /// a partial one, and progress.
     fn before() -> State {
         let mut state = State::fresh();
         for (kind, plan) in state.plans.iter_mut().enumerate() {
-            let upload = Upload { count: 3, next: 2, repeats: 5, ..Upload::default() };
+            let station = Address::default();
+            let upload = match kind {
+                RALLY => Upload::partial(station, 2, (1, 1), 0),
+                _ => Upload { next: 2, repeats: 5, ..Upload::whole(station, 3, 0) },
+            };
             let half = (kind % 2) as u8;
             *plan = Plan { length: 2, number: 7 + kind as u32, half, upload: Some(upload) };
         }
@@ -152,16 +158,20 @@ mod tests {
         let whole = (OLD_STORE_BYTES, STORE_WORDS);
         let bad_upload =
             |state: &mut State| state.plans[RALLY].upload.as_mut().unwrap().repeats = 6;
+        let bad_last = |state: &mut State| state.plans[RALLY].upload.as_mut().unwrap().last = 2;
+        let bad_first = |state: &mut State| state.plans[FENCE].upload.as_mut().unwrap().first = 1;
         let bad_count = |state: &mut State| state.jump_counts[0] = 32768;
         let none = |_: &mut State| {};
         type Spoil<'a> = &'a dyn Fn(&mut State);
-        let refused: [(Spoil, (usize, usize), u8); 6] = [
+        let refused: [(Spoil, (usize, usize), u8); 8] = [
             (&none, (whole.0 - 1, whole.1), 14),
             (&none, (whole.0, whole.1 - 1), 14),
             (&bad_count, (0, whole.1), 14),
             (&bad_count, (whole.0, 0), 14),
             (&bad_count, whole, 15),
             (&bad_upload, whole, 15),
+            (&bad_last, whole, 15),
+            (&bad_first, whole, 15),
         ];
         for (spoil, (old_len, new_len), outcome) in refused {
             let mut state = before();

@@ -93,7 +93,7 @@ impl Player {
             record::MESSAGE => self.message(record, out),
             record::TIMER => self.timer(record, out),
             record::DONE => self.done(record, out),
-            record::DUMP => self.dump(out),
+            record::DUMP => self.dump(record.b[4] & WITHOUT_HALF == 0, out),
             record::FRESH => {
                 self.service = Service::fresh(self.service.fault);
                 self.stores.fill(record.b[0]);
@@ -212,14 +212,15 @@ impl Player {
         out.push(b'\n');
     }
 
-    fn dump(&self, out: &mut Vec<u8>) {
-        if !self.state().in_range() {
+    /// State and plans, with or without the halves that the plans are in.
+    fn dump(&self, with_half: bool, out: &mut Vec<u8>) {
+        if !self.state().in_range(self.service.fault) {
             out.extend(b"D 15\n");
             return;
         }
         out.extend(b"D 0\n");
         for kind in 0..KINDS {
-            self.dump_kind(kind, out);
+            self.dump_kind(kind, with_half, out);
         }
         let State { current, begun, jump_counts, .. } = self.state();
         print(out, format_args!("c {current} {}", u8::from(*begun)));
@@ -229,32 +230,42 @@ impl Player {
         out.push(b'\n');
     }
 
-    fn dump_kind(&self, kind: usize, out: &mut Vec<u8>) {
+    fn dump_kind(&self, kind: usize, with_half: bool, out: &mut Vec<u8>) {
         let plan = &self.state().plans[kind];
         let shown = plan.shown_number();
         let (length, number, half) = (plan.length, plan.number, plan.half);
-        print(out, format_args!("k {kind} {length} {number} {shown} {half}\n"));
+        print(out, format_args!("k {kind} {length} {number} {shown} "));
+        match with_half {
+            true => print(out, format_args!("{half}\n")),
+            false => out.extend(b"-\n"),
+        }
         match plan.upload {
             None => print(out, format_args!("u {kind} -\n")),
-            Some(Upload { station, count, next, start, repeats }) => {
-                let (system, component) = (station.system, station.component);
-                print(out, format_args!("u {kind} {system} {component} "));
-                print(out, format_args!("{count} {next} {start} {repeats}\n"));
-            }
+            Some(upload) => dump_upload(kind, &upload, out),
         }
-        self.dump_items('i', self.service.plan_shelf(kind), length, out);
-        let taken = plan.upload.map_or(0, |upload| upload.next);
+        self.dump_items('i', self.service.plan_shelf(kind), 0..length, out);
+        let taken = plan.upload.map_or(0..0, |upload| upload.first..upload.next);
         self.dump_items('w', self.service.upload_shelf(kind), taken, out);
     }
 
     /// Items as their 38 bytes.
-    fn dump_items(&self, letter: char, shelf: Shelf, end: u16, out: &mut Vec<u8>) {
-        for index in 0..end {
+    fn dump_items(&self, letter: char, shelf: Shelf, items: Range<u16>, out: &mut Vec<u8>) {
+        for index in items {
             print(out, format_args!("{letter} {} {index} ", shelf.kind));
             print_hex(&shelf.item(&self.stores.words, index).to_bytes(), out);
             out.push(b'\n');
         }
     }
+}
+
+fn dump_upload(kind: usize, upload: &Upload, out: &mut Vec<u8>) {
+    let Upload { station, count, next, start, repeats, partial, first, last } = upload;
+    let (system, component) = (station.system, station.component);
+    print(out, format_args!("u {kind} {system} {component} {count} {next} {start} {repeats}"));
+    if *partial {
+        print(out, format_args!(" P {first} {last}"));
+    }
+    out.push(b'\n');
 }
 
 /// Sets a number of the state; the field and index are known to fit.
@@ -268,7 +279,7 @@ fn poke(state: &mut State, poked: u8, index: u8, value: u32) {
             let upload = &mut state.plans[index].upload;
             *upload = (value != 0).then(|| upload.unwrap_or_default());
         }
-        field::SYSTEM..=field::REPEATS => {
+        field::SYSTEM..=field::REPEATS | field::PARTIAL..=field::LAST => {
             if let Some(upload) = &mut state.plans[index].upload {
                 poke_upload(upload, poked, value);
             }
@@ -288,6 +299,9 @@ fn poke_upload(upload: &mut Upload, poked: u8, value: u32) {
         field::NEXT => upload.next = value as u16,
         field::START => upload.start = value,
         field::REPEATS => upload.repeats = value as u8,
+        field::PARTIAL => upload.partial = value != 0,
+        field::FIRST => upload.first = value as u16,
+        field::LAST => upload.last = value as u16,
         _ => {}
     }
 }
@@ -376,6 +390,34 @@ mod tests {
             format!("i 2 1 {zeros}0100EC1300001200FE02"),
         ];
         assert_eq!(items, expected);
+    }
+
+    #[test]
+    fn uploads_and_halves_in_a_dump() {
+        let station = address(3, 4);
+        let whole = Upload { next: 1, repeats: 5, ..Upload::whole(station, 2, 7) };
+        let partial = Upload { next: 2, ..Upload::partial(station, 3, (1, 2), 8) };
+        let mut script = vec![fresh(0x11), Record::poke(field::LENGTH, 1, 3)];
+        script.extend(Record::upload_pokes(0, Some(whole)));
+        script.extend(Record::upload_pokes(1, Some(partial)));
+        script.push(Record::of(record::DUMP));
+        script.push(Record::about(record::DUMP, WITHOUT_HALF));
+        script.extend(Record::upload_pokes(1, Some(Upload { first: 3, ..partial })));
+        script.push(Record::of(record::DUMP));
+        let lines = played(&script_bytes(&script));
+        let of = |letter: char| lines.lines().filter(move |line| line.starts_with(letter));
+        let halves = ["0", "-"].map(|half| {
+            ["k 0 0 0 0 ", "k 1 3 0 0 ", "k 2 0 0 0 "].map(|plan| format!("{plan}{half}"))
+        });
+        assert!(of('k').eq(halves.as_flattened()));
+        let uploads = ["u 0 3 4 2 1 7 5", "u 1 3 4 3 2 8 0 P 1 2", "u 2 -"];
+        assert!(of('u').eq([uploads; 2].as_flattened().iter().copied()));
+        let fill = "11".repeat(28);
+        let taken = [("w 0 0", "0000", "00"), ("w 1 1", "0100", "01")];
+        let taken =
+            taken.map(|(item, seq, kind)| format!("{item} {fill}{seq}11110000110011{kind}"));
+        assert!(of('w').eq([taken.clone(), taken].as_flattened()));
+        assert!(of('D').eq(["D 0", "D 0", "D 15"]));
     }
 
     #[test]

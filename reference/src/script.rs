@@ -3,6 +3,7 @@
 use std::io::{self, Read};
 
 use crate::limits::*;
+use crate::state::Upload;
 
 pub const HEADER_BYTES: usize = 24;
 /// Longest payload of a record.
@@ -63,7 +64,13 @@ pub mod field {
     pub const CURRENT: u8 = 10;
     pub const BEGUN: u8 = 11;
     pub const JUMP_COUNT: u8 = 12;
+    pub const PARTIAL: u8 = 13;
+    pub const FIRST: u8 = 14;
+    pub const LAST: u8 = 15;
 }
+
+/// The bit of a DUMP's b4 with which a plan's half is not printed.
+pub const WITHOUT_HALF: u8 = 1;
 
 /// One record; `b` holds b0 to b4.
 #[derive(Clone, Debug, Default, PartialEq, Eq)]
@@ -91,13 +98,27 @@ impl Record {
         (first..).zip(values).map(|(poked, value)| Record::poke(poked, index, *value)).collect()
     }
 
+    /// Pokes of all numbers of a running upload, or of none.
+    pub fn upload_pokes(kind: u8, upload: Option<Upload>) -> Vec<Record> {
+        let running = u32::from(upload.is_some());
+        let Upload { station, count, next, start, repeats, partial, first, last } =
+            upload.unwrap_or_default();
+        let [system, component, repeats] =
+            [station.system, station.component, repeats].map(u32::from);
+        let [count, next, first, last] = [count, next, first, last].map(u32::from);
+        let values = [running, system, component, count, next, start, repeats];
+        let mut pokes = Record::pokes(field::RUNNING, kind, &values);
+        pokes.extend(Record::pokes(field::PARTIAL, kind, &[u32::from(partial), first, last]));
+        pokes
+    }
+
     pub fn host_write(written: u8, kind: u8, at: u32, payload: Vec<u8>) -> Record {
         Record { b: [kind, 0, 0, 0, written], a: at, payload, ..Record::of(record::WRITE) }
     }
 
-    /// A SNAP or CMP of the store or the old one.
-    pub fn about(kind: u8, array: u8) -> Record {
-        Record { b: [0, 0, 0, 0, array], ..Record::of(kind) }
+    /// A SNAP or CMP of the store or the old one, or a DUMP with or without halves.
+    pub fn about(kind: u8, b4: u8) -> Record {
+        Record { b: [0, 0, 0, 0, b4], ..Record::of(kind) }
     }
 
     /// The move out of so many bytes into so many words.
@@ -156,7 +177,7 @@ impl Record {
 
 fn poke_fits(poked: u8, index: u8) -> bool {
     let indices = match poked {
-        field::LENGTH..=field::REPEATS => KINDS,
+        field::LENGTH..=field::REPEATS | field::PARTIAL..=field::LAST => KINDS,
         field::CURRENT | field::BEGUN => 1,
         field::JUMP_COUNT => MAX_JUMPS,
         _ => 0,
@@ -285,9 +306,9 @@ mod tests {
             Record { b: [0, 0, 0, 0, 1], ..of(record::FRESH) },
             Record::about(record::SNAP, 2),
             Record::about(record::CMP, 2),
-            Record::poke(13, 0, 0),
-            Record::poke(9, 3, 0),
+            Record::poke(16, 0, 0),
             Record::poke(10, 1, 0),
+            Record::poke(15, 3, 0),
             Record::poke(12, 15, 0),
             Record::moving(26_881, 0),
             Record::moving(0, 5_665),
@@ -317,6 +338,9 @@ mod tests {
             Record { store: 5_664, reply: 64, ..Record::of(record::DONE) },
             Record::about(record::SNAP, 1),
             Record::about(record::CMP, 1),
+            Record::about(record::DUMP, WITHOUT_HALF),
+            Record::poke(13, 2, 1),
+            Record::poke(15, 2, 65_535),
             Record::moving(26_880, 5_664),
             write(target::WORDS, 9, 5_663, 4),
             write(target::WORDS, 0, 5_664, 0),

@@ -31,7 +31,7 @@ pub fn next_command(state: &mut State, store: &[u32], fault: Fault) -> Command {
     while at < length {
         let item = shelf.item(store, at);
         let is_jump = item.command == DO_JUMP;
-        let jumps_before = if is_jump { shelf.jumps_before(store, at) } else { 0 };
+        let jumps_before = if is_jump { shelf.jumps(store, 0..at) } else { 0 };
         let standing = Standing { kind: FLIGHT, number: at, count: length, jumps_before };
         if breaks_rules(&item, &standing, fault) {
             return Command::Stuck;

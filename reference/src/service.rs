@@ -49,7 +49,7 @@ fn without_reply(outcome: u8) -> Returned {
 }
 
 /// An ACK that is not for an accepted upload.
-fn ack(to: Address, result: u8, kind: u8) -> Message {
+pub(crate) fn ack(to: Address, result: u8, kind: u8) -> Message {
     Message::Ack { to, result, kind, number: 0 }
 }
 
@@ -107,7 +107,7 @@ impl Service {
             Err(outcome::SHORT_STORE)
         } else if short_buffer && self.fault.is(Fault::BufferBeforeRange) {
             Err(outcome::SHORT_BUFFER)
-        } else if !self.state.in_range() {
+        } else if !self.state.in_range(self.fault) {
             Err(outcome::OUT_OF_RANGE)
         } else if short_buffer {
             Err(outcome::SHORT_BUFFER)
@@ -173,6 +173,7 @@ impl Service {
             | Message::RequestList { kind, .. }
             | Message::RequestInt { kind, .. }
             | Message::Count { kind, .. }
+            | Message::WritePartialList { kind, .. }
             | Message::ItemInt(Item { kind, .. })
                 if usize::from(kind) >= KINDS =>
             {
@@ -187,12 +188,15 @@ impl Service {
                 Some(self.request_int(sender, seq, kind, store))
             }
             Message::Count { count, kind, .. } => Some(self.count(sender, count, kind, call.clock)),
+            Message::WritePartialList { start, end, kind, .. } => {
+                Some(self.write_partial_list(sender, (start, end), kind, call.clock))
+            }
             Message::ItemInt(item) => Some(self.item_int(sender, item, call.clock, store)),
             Message::Current { .. } | Message::StatusText { .. } => None,
         }
     }
 
-    fn plan(&mut self, kind: u8) -> &mut Plan {
+    pub(crate) fn plan(&mut self, kind: u8) -> &mut Plan {
         &mut self.state.plans[usize::from(kind)]
     }
 
@@ -208,7 +212,7 @@ impl Service {
         let fault = self.fault;
         let above = count > PLAN_SIZE[usize::from(kind)];
         let plan = self.plan(kind);
-        if plan.upload.is_some_and(|upload| upload.station != sender) {
+        if plan.another_uploads(sender) {
             let misread = above && fault.is(Fault::CountForeignSpace);
             let result = if misread { result::NO_SPACE } else { result::DENIED };
             return ack(sender, result, kind);
@@ -224,7 +228,7 @@ impl Service {
             self.empty(usize::from(kind));
             return ack(sender, result::ACCEPTED, kind);
         }
-        plan.upload = Some(Upload { station: sender, count, next: 0, start: clock, repeats: 0 });
+        plan.upload = Some(Upload::whole(sender, count, clock));
         if fault.is(Fault::ClearAtCount) {
             self.empty(usize::from(kind));
         }
@@ -246,27 +250,32 @@ impl Service {
         }
         if let Err(reason) = verdict {
             self.plan(kind).upload = None;
-            self.use_free_words(usize::from(kind), upload.next, store);
+            self.use_free_words(usize::from(kind), upload.next..upload.next + 1, store);
             return ack(sender, reason, kind);
         }
         self.take(item, upload, clock, store)
     }
 
-    /// The place of an item that was not taken into a plan is free.
-    fn use_free_words(&self, kind: usize, index: u16, store: &mut [u32]) {
+    /// The places of items that were not taken into a plan are free.
+    fn use_free_words(&self, kind: usize, places: Range<u16>, store: &mut [u32]) {
         if self.fault.is(Fault::FreeWords) {
-            self.upload_shelf(kind).put_words(store, index, [0x5A5A_5A5A; ITEM_WORDS]);
+            let shelf = self.upload_shelf(kind);
+            places.for_each(|index| shelf.put_words(store, index, [0x5A5A_5A5A; ITEM_WORDS]));
         }
     }
 
-    /// The verdict on an item as the upload's next one.
+    /// The verdict on an item as the upload's next one. In a partial upload the
+    /// room for jumps is judged at the last item, over the whole.
     fn judge_upload_item(&self, item: &Item, upload: &Upload, store: &[u32]) -> Result<(), u8> {
         let kind = usize::from(item.kind);
         let jumps_before = match item.command {
-            DO_JUMP => self.upload_shelf(kind).jumps_before(store, upload.next),
+            DO_JUMP if upload.partial => self.jumps_beside(upload, store),
+            DO_JUMP => self.upload_shelf(kind).jumps(store, 0..upload.next),
             _ => 0,
         };
-        let standing = Standing { kind, number: item.seq, count: upload.count, jumps_before };
+        let to_end = upload.partial && self.fault.is(Fault::PartialTargetsToEnd);
+        let count = if to_end { upload.last + 1 } else { upload.count };
+        let standing = Standing { kind, number: item.seq, count, jumps_before };
         judge(item, &standing, self.fault)
     }
 
@@ -284,26 +293,64 @@ impl Service {
         Message::RequestInt { seq: upload.next, to: upload.station, kind: item.kind }
     }
 
-    /// Stores the expected, valid item and requests the next one, or replaces
-    /// the plan after the last.
+    /// Stores the expected, valid item and requests the next one, if it is not
+    /// the last.
     fn take(&mut self, item: Item, upload: Upload, clock: u32, store: &mut [u32]) -> Message {
         let kind = usize::from(item.kind);
-        let shelf = self.upload_shelf(kind);
-        shelf.put(store, upload.next, &self.stored(item));
+        let early = upload.partial && self.fault.is(Fault::PartialPlaceEarly);
+        let place = upload.next.saturating_sub(u16::from(early));
+        self.upload_shelf(kind).put(store, place, &self.stored(item));
+        if upload.partial && self.fault.is(Fault::PartialItemByItem) {
+            self.plan_shelf(kind).put(store, place, &self.stored(item));
+        }
+        if upload.next == upload.last {
+            return self.finish(kind, upload, store);
+        }
         let next = upload.next + 1;
-        if next < upload.count {
-            let repeats = if self.fault.is(Fault::RepeatsKept) { upload.repeats } else { 0 };
-            let taken = Upload { next, start: clock, repeats, ..upload };
-            self.plan(item.kind).upload = Some(taken);
-            return Message::RequestInt { seq: next, to: upload.station, kind: item.kind };
+        let repeats = if self.fault.is(Fault::RepeatsKept) { upload.repeats } else { 0 };
+        let taken = Upload { next, start: clock, repeats, ..upload };
+        self.plan(item.kind).upload = Some(taken);
+        Message::RequestInt { seq: next, to: upload.station, kind: item.kind }
+    }
+
+    /// After the last item, replaces the plan, unless the whole breaks a rule.
+    fn finish(&mut self, kind: usize, upload: Upload, store: &mut [u32]) -> Message {
+        let Upload { station, count, .. } = upload;
+        self.state.plans[kind].upload = None;
+        if upload.partial {
+            self.put_unchanged(kind, &upload, store);
         }
-        self.plan(item.kind).upload = None;
-        if kind == FENCE && !self.uploaded_fence_fits(shelf, upload.count, store) {
-            self.use_free_words(kind, upload.next, store);
-            return ack(upload.station, result::INVALID, item.kind);
+        if let Err(reason) = self.judge_whole(kind, &upload, store) {
+            if upload.partial && self.fault.is(Fault::PartialRefusedStays) {
+                self.state.plans[kind].upload = Some(upload);
+            }
+            let own_place = upload.next..upload.next + 1;
+            let free = if upload.partial { 0..count } else { own_place };
+            self.use_free_words(kind, free, store);
+            return ack(station, reason, kind as u8);
         }
-        let number = self.replace(kind, upload.count);
-        Message::Ack { to: upload.station, result: result::ACCEPTED, kind: item.kind, number }
+        let number = self.replace(kind, &upload);
+        Message::Ack { to: station, result: result::ACCEPTED, kind: kind as u8, number }
+    }
+
+    /// The verdict on all the items that are to be the plan.
+    fn judge_whole(&self, kind: usize, upload: &Upload, store: &[u32]) -> Result<(), u8> {
+        if upload.partial {
+            self.judge_unchanged(kind, upload, store)?;
+        }
+        if kind == FLIGHT && upload.partial && !self.jumps_fit(upload, store) {
+            let misread = self.fault.is(Fault::PartialSpaceIs5);
+            return Err(if misread { result::INVALID } else { result::NO_SPACE });
+        }
+        let judged = match self.fault {
+            Fault::PartialFenceFree if upload.partial => 0..0,
+            Fault::PartialFenceSent => upload.first..upload.last + 1,
+            _ => 0..upload.count,
+        };
+        if kind == FENCE && !self.uploaded_fence_fits(judged, store) {
+            return Err(result::INVALID);
+        }
+        Ok(())
     }
 
     /// The item that is stored: the one sent.
@@ -321,25 +368,30 @@ impl Service {
         item
     }
 
-    fn uploaded_fence_fits(&self, shelf: Shelf, count: u16, store: &[u32]) -> bool {
-        let items: Vec<Item> = (0..count).map(|index| shelf.item(store, index)).collect();
+    fn uploaded_fence_fits(&self, judged: Range<u16>, store: &[u32]) -> bool {
+        let shelf = self.upload_shelf(FENCE);
+        let items: Vec<Item> = judged.map(|index| shelf.item(store, index)).collect();
         fence_fits(&items, self.fault)
     }
 
     /// Makes the uploaded items the plan and gives its new number.
-    fn replace(&mut self, kind: usize, length: u16) -> u32 {
+    fn replace(&mut self, kind: usize, upload: &Upload) -> u32 {
         let plan = &mut self.state.plans[kind];
-        plan.length = length;
+        plan.length = upload.count;
         if !self.fault.is(Fault::HalfNotSwitched) {
             plan.half = plan.other_half();
         }
-        plan.number = plan.number.wrapping_add(1);
+        if !(upload.partial && self.fault.is(Fault::PartialKeepsNumber)) {
+            plan.number = plan.number.wrapping_add(1);
+        }
         if plan.number == 0 && !self.fault.is(Fault::NumberZero) {
             plan.number = 1;
         }
         let number = plan.number;
-        if kind == FLIGHT {
-            self.state.restart_flight();
+        match upload.partial {
+            _ if kind != FLIGHT => {}
+            true => self.go_on_flying(upload),
+            false => self.state.restart_flight(),
         }
         number
     }
@@ -372,7 +424,7 @@ impl Service {
     }
 
     fn clear(&mut self, sender: Address, covered: Range<usize>, kind: u8) -> Message {
-        let foreign = |plan: &Plan| plan.upload.is_some_and(|u| u.station != sender);
+        let foreign = |plan: &Plan| plan.another_uploads(sender);
         let denied = self.state.plans[covered.clone()].iter().any(foreign);
         let own_only = self.fault.is(Fault::ClearOwnOnly) && kind == ALL_KINDS;
         if denied && !own_only {
@@ -443,7 +495,9 @@ impl Service {
         }
         let start = if fault.is(Fault::TimerNotRestarted) { upload.start } else { clock };
         plan.upload = Some(Upload { start, repeats: upload.repeats + 1, ..upload });
-        Some(Message::RequestInt { seq: upload.next, to: upload.station, kind })
+        let from_first = upload.partial && fault.is(Fault::PartialExpiryStart);
+        let seq = if from_first { upload.first } else { upload.next };
+        Some(Message::RequestInt { seq, to: upload.station, kind })
     }
 }
 

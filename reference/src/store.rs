@@ -1,5 +1,7 @@
 //! Where items lie in the store, and the words that they are there.
 
+use std::ops::Range;
+
 use crate::fault::Fault;
 use crate::items::DO_JUMP;
 use crate::layout::{Address, Item};
@@ -97,9 +99,9 @@ impl Shelf {
         item
     }
 
-    /// How many of the first `end` items are jumps, valid or not.
-    pub fn jumps_before(&self, store: &[u32], end: u16) -> usize {
-        let commands = (0..end).map(|index| self.item(store, index).command);
+    /// How many of some items are jumps, valid or not.
+    pub fn jumps(&self, store: &[u32], items: Range<u16>) -> usize {
+        let commands = items.map(|index| self.item(store, index).command);
         commands.filter(|command| *command == DO_JUMP).count()
     }
 }

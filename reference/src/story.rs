@@ -128,6 +128,7 @@ fn message(clock: u32, name: &str, words: &mut SplitWhitespace) -> Result<Step, 
         "count" => {
             Message::Count { kind: kind(words)?, count: next("count", words)?, to, number: 0 }
         }
+        "change" => change(words)?,
         "item" => Message::ItemInt(item(words)?),
         "list" => Message::RequestList { to, kind: kind(words)? },
         "request" => Message::RequestInt { kind: kind(words)?, seq: next("number", words)?, to },
@@ -136,6 +137,13 @@ fn message(clock: u32, name: &str, words: &mut SplitWhitespace) -> Result<Step, 
         _ => return Err(format!("{name}: no such step")),
     };
     Ok(Step::Message { clock, system, message })
+}
+
+/// The announcement that items of a plan change, from one to another.
+fn change(words: &mut SplitWhitespace) -> Result<Message, String> {
+    let kind = kind(words)?;
+    let (start, end) = (next("number", words)?, next("number", words)?);
+    Ok(Message::WritePartialList { start, end, to: DRONE, kind })
 }
 
 /// An item 10 metres above the start, or a circle of 200 metres.
@@ -219,6 +227,10 @@ mod tests {
             step("7 count 255 fence 3"),
             message(Message::Count { count: 3, to, kind: 1, number })
         );
+        assert_eq!(
+            step("7 change 255 flight 1 2"),
+            message(Message::WritePartialList { start: 1, end: 2, to, kind: 0 })
+        );
         assert_eq!(step("7 list 255 rally"), message(Message::RequestList { to, kind: 2 }));
         assert_eq!(
             step("7 request 255 flight 4"),
@@ -248,6 +260,7 @@ mod tests {
             (">5 fly 255", "line 1: fly: no such step"),
             (">5 timer orchard", "line 1: orchard: not a kind"),
             (">5 count 256 flight 1", "line 1: 256: not a system"),
+            (">5 change 255 flight 1", "line 1: a number is missing"),
             (">5 item 255 flight 0 16 1", "line 1: degrees are missing"),
             (
                 ">5 item 255 flight 0 16 1.23456789 0",

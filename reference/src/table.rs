@@ -6,6 +6,7 @@ use std::collections::HashMap;
 use crate::layout::{address, Address, Item};
 use crate::limits::{KINDS, MAX_JUMPS};
 use crate::script::{target, write_fits, MAX_PAYLOAD, OLD_ARRAY, REPLY_ARRAY, STORE_ARRAY};
+use crate::state::Upload;
 
 /// How many tests a value's pattern is put to.
 pub const TESTS: usize = 4;
@@ -51,10 +52,9 @@ pub enum Setting {
         kind: u8,
         numbers: [u32; 3],
     },
-    /// A running upload: system, component, count, next, start, repeats.
     Upload {
         kind: u8,
-        numbers: [u32; 6],
+        upload: Upload,
     },
     /// A host's write about a target, as call scripts have it.
     Write {
@@ -308,16 +308,18 @@ impl<'a> Words<'a> {
 
     fn upload(&mut self) -> Result<Setting, String> {
         let kind = self.kind()?;
-        let (byte, half) = (usize::from(u8::MAX), usize::from(u16::MAX));
-        let numbers = [
-            self.at_most("SYSTEM", byte)? as u32,
-            self.at_most("COMPONENT", byte)? as u32,
-            self.at_most("COUNT", half)? as u32,
-            self.at_most("NEXT", half)? as u32,
-            self.number("START")?,
-            self.at_most("REPEATS", byte)? as u32,
-        ];
-        Ok(Setting::Upload { kind, numbers })
+        let (station, count) = (self.address()?, self.number("COUNT")?);
+        let (next, start) = (self.number("NEXT")?, self.number("START")?);
+        let repeats = self.number("REPEATS")?;
+        let whole = Upload { next, repeats, ..Upload::whole(station, count, start) };
+        let partial = match self.0.next() {
+            None => return Ok(Setting::Upload { kind, upload: whole }),
+            Some("W") => false,
+            Some("P") => true,
+            Some(word) => return Err(format!("{word}: neither W nor P")),
+        };
+        let (first, last) = (self.number("FIRST")?, self.number("LAST")?);
+        Ok(Setting::Upload { kind, upload: Upload { partial, first, last, ..whole } })
     }
 
     fn write(&mut self, written: u8) -> Result<Setting, String> {
@@ -502,9 +504,13 @@ mod tests {
         assert_eq!(set("a: a"), Act::Set(Setting::Copies));
         let plan = Setting::Plan { kind: 2, numbers: [33, u32::MAX, 1] };
         assert_eq!(set("a: k 2 33 4294967295 1"), Act::Set(plan));
-        let numbers = [255, 190, 2, 0, 7, 6];
-        let upload = Setting::Upload { kind: 1, numbers };
-        assert_eq!(set("a: r 1 255 190 2 0 7 6"), Act::Set(upload));
+        let upload = Upload { next: 1, repeats: 6, ..Upload::whole(address(255, 190), 2, 7) };
+        let row = |upload| Act::Set(Setting::Upload { kind: 1, upload });
+        assert_eq!(set("a: r 1 255 190 2 1 7 6"), row(upload));
+        let first_and_last = Upload { first: 3, last: 65535, ..upload };
+        assert_eq!(set("a: r 1 255 190 2 1 7 6 W 3 65535"), row(first_and_last));
+        let partial = Upload { partial: true, first: 1, last: 1, ..upload };
+        assert_eq!(set("a: r 1 255 190 2 1 7 6 P 1 1"), row(partial));
     }
 
     #[test]
@@ -554,6 +560,9 @@ mod tests {
         ("a: n 43 0 301 > 1", "LAST 301: above 300"),
         ("a: l 5665 54", "STORE 5665: above 5664"),
         ("a: k 0 1 1 2", "HALF 2: above 1"),
+        ("a: r 0 1 1 4 0 0 0 3", "3: neither W nor P"),
+        ("a: r 0 1 1 4 0 0 0 P 3", "LAST is missing"),
+        ("a: r 0 1 1 4 0 0 0 W 3 65536", "LAST 65536: no number that fits"),
         ("a: w 5664 01020304", "5664: cut words or items, or past the end"),
         ("a: w 0 010203", "0: cut words or items, or past the end"),
         ("a: h 2 0 01020304", "0: cut words or items, or past the end"),

@@ -108,9 +108,7 @@ impl Writer {
         self.push(Record { b: [STORE_FILL, 0, 0, 0, 0], ..Record::of(record::FRESH) }, Want::Any);
     }
 
-    /// Pokes of one field after the other, with the same index.
-    fn poke(&mut self, first: u8, index: u8, values: &[u32]) {
-        let pokes = Record::pokes(first, index, values);
+    fn pokes(&mut self, pokes: Vec<Record>) {
         pokes.into_iter().for_each(|poke| self.push(poke, Want::Any));
     }
 
@@ -127,11 +125,14 @@ impl Writer {
                 self.push(Record::about(record::SNAP, array::STORE), Want::Any);
                 self.push(Record::about(record::SNAP, array::OLD), Want::Any);
             }
-            Setting::Current(item) => self.poke(field::CURRENT, 0, &[u32::from(*item)]),
-            Setting::Plan { kind, numbers } => self.poke(field::LENGTH, *kind, numbers),
-            Setting::Upload { kind, numbers } => {
-                self.poke(field::RUNNING, *kind, &[1]);
-                self.poke(field::SYSTEM, *kind, numbers);
+            Setting::Current(item) => {
+                self.push(Record::poke(field::CURRENT, 0, u32::from(*item)), Want::Any)
+            }
+            Setting::Plan { kind, numbers } => {
+                self.pokes(Record::pokes(field::LENGTH, *kind, numbers))
+            }
+            Setting::Upload { kind, upload } => {
+                self.pokes(Record::upload_pokes(*kind, Some(*upload)))
             }
             Setting::Write { written, kind, at, bytes } => {
                 self.push(Record::host_write(*written, *kind, *at, bytes.clone()), Want::Any);

@@ -31,6 +31,16 @@ fn m106_move() {
     prints(include_bytes!("samples/m106_move.bin"), include_str!("samples/m106_move.exp"));
 }
 
+#[test]
+fn m108_ranges() {
+    prints(include_bytes!("samples/m108_ranges.bin"), include_str!("samples/m108_ranges.exp"));
+}
+
+#[test]
+fn m108_half() {
+    prints(include_bytes!("samples/m108_half.bin"), include_str!("samples/m108_half.exp"));
+}
+
 fn prints(mut script: &[u8], expected: &str) {
     let mut lines = Vec::new();
     play(&mut script, &mut lines, Fault::None).unwrap();

@@ -13,6 +13,7 @@ use item::{verdict, Item, DO_JUMP};
 use reply::{write, write_item, Out};
 
 /// The ids that are read.
+pub const WRITE_PARTIAL_LIST: u32 = 38;
 pub const SET_CURRENT: u32 = 41;
 pub const REQUEST_LIST: u32 = 43;
 pub const COUNT: u32 = 44;
@@ -107,7 +108,7 @@ fn without_reply(outcome: u8) -> Served {
     Served { outcome, id: 0, len: 0 }
 }
 
-/// A running upload, with the jumps among the items that it took.
+/// A running upload: of a whole plan, or a partial one of items first to last, which leaves the others.
 #[derive(Clone, Copy)]
 pub struct Upload {
     pub station: Station,
@@ -115,7 +116,37 @@ pub struct Upload {
     pub next: u16,
     pub started: u32,
     pub repeats: u8,
-    jumps: u8,
+    pub partial: bool,
+    pub first: u16,
+    pub last: u16,
+    /// The jumps among the items taken, and of a partial upload also among those of the plan that they do not replace.
+    jumps: u16,
+}
+
+impl Upload {
+    fn whole(station: Station, count: u16, started: u32) -> Upload {
+        let last = count - 1;
+        Upload {
+            station,
+            count,
+            next: 0,
+            started,
+            repeats: 0,
+            partial: false,
+            first: 0,
+            last,
+            jumps: 0,
+        }
+    }
+
+    fn in_range(&self, length: u16, size: u16) -> bool {
+        let Upload { count, next, first, last, .. } = *self;
+        let range = match self.partial {
+            true => count == length && first <= next && last < count,
+            false => count <= size && first == 0 && usize::from(last) + 1 == usize::from(count),
+        };
+        range && next <= last && self.repeats <= MOST_REPEATS
+    }
 }
 
 /// What is kept of one kind beside its items.
@@ -124,6 +155,7 @@ pub struct Plan {
     pub length: u16,
     half: u8,
     number: u32,
+    jumps: u16,
     pub upload: Option<Upload>,
 }
 
@@ -142,16 +174,14 @@ impl Plan {
     }
 
     fn in_range(&self, size: u16) -> bool {
-        let upload = self.upload.is_none_or(|upload| {
-            upload.next < upload.count && upload.count <= size && upload.repeats <= MOST_REPEATS
-        });
+        let upload = self.upload.is_none_or(|upload| upload.in_range(self.length, size));
         self.length <= size && upload
     }
 
-    /// The items of an upload, which stand in the other half, become the plan. Its number.
-    fn replace(&mut self, length: u16) -> u32 {
-        self.length = length;
-        self.half = 1 - self.half;
+    /// Gives the plan that an upload makes a new number.
+    fn renumber(&mut self, upload: &Upload) -> u32 {
+        self.length = upload.count;
+        self.jumps = upload.jumps;
         self.number = self.number.checked_add(1).unwrap_or(1);
         self.number
     }
@@ -168,7 +198,7 @@ pub struct Service {
 
 impl Service {
     pub fn fresh() -> Service {
-        let plan = Plan { length: 0, half: 0, number: 0, upload: None };
+        let plan = Plan { length: 0, half: 0, number: 0, jumps: 0, upload: None };
         let items = [[Item::EMPTY; PLACES]; 2];
         Service { plans: [plan; KINDS], current: 0, begun: false, runs: [0; MOST_JUMPS], items }
     }
@@ -242,6 +272,10 @@ impl Service {
                 && (p[at + 1] == call.own.component || p[at + 1] == 0)
         };
         match call.id {
+            WRITE_PARTIAL_LIST if for_us(4) => {
+                let ends = (u16_at(p, 0) as i16, u16_at(p, 2) as i16);
+                self.write_partial_list(sender, ends, p[6], call.clock, reply)
+            }
             SET_CURRENT if for_us(2) => self.set_current(u16_at(p, 0), reply),
             REQUEST_LIST if for_us(0) => self.request_list(sender, p[2], reply),
             COUNT if for_us(2) => self.count(sender, u16_at(p, 0), p[4], call.clock, reply),
@@ -249,9 +283,8 @@ impl Service {
             ACK if for_us(0) => self.acknowledged(sender, p[2], p[3]),
             REQUEST_INT if for_us(2) => self.request_int(sender, u16_at(p, 0), p[4], reply),
             ITEM_INT if for_us(32) => self.item_int(sender, item, call.clock, reply),
-            SET_CURRENT | REQUEST_LIST | COUNT | CLEAR_ALL | ACK | REQUEST_INT | ITEM_INT => {
-                without_reply(outcome::NOT_FOR_US)
-            }
+            WRITE_PARTIAL_LIST | SET_CURRENT | REQUEST_LIST | COUNT | CLEAR_ALL | ACK
+            | REQUEST_INT | ITEM_INT => without_reply(outcome::NOT_FOR_US),
             _ => without_reply(outcome::NOT_READ),
         }
     }
@@ -296,9 +329,32 @@ impl Service {
             self.empty(usize::from(kind));
             return ack(reply, sender, result::ACCEPTED, kind, 0);
         }
-        plan.upload =
-            Some(Upload { station: sender, count, next: 0, started: clock, repeats: 0, jumps: 0 });
+        plan.upload = Some(Upload::whole(sender, count, clock));
         request(reply, 0, sender, kind)
+    }
+
+    fn write_partial_list(
+        &mut self,
+        sender: Station,
+        (start, end): (i16, i16),
+        kind: u8,
+        clock: u32,
+        reply: Out,
+    ) -> Served {
+        let Some(plan) = self.plans.get_mut(usize::from(kind)) else {
+            return ack(reply, sender, result::UNSUPPORTED, kind, 0);
+        };
+        if plan.another_uploads(sender) {
+            return ack(reply, sender, result::DENIED, kind, 0);
+        }
+        plan.upload = None;
+        if start < 0 || end < start || end as u16 >= plan.length {
+            return ack(reply, sender, result::INVALID_SEQUENCE, kind, 0);
+        }
+        let (first, last, jumps) = (start as u16, end as u16, plan.jumps);
+        let whole = Upload::whole(sender, plan.length, clock);
+        plan.upload = Some(Upload { next: first, partial: true, first, last, jumps, ..whole });
+        request(reply, first, sender, kind)
     }
 
     fn clear_all(&mut self, sender: Station, kind: u8, reply: Out) -> Served {
@@ -355,40 +411,82 @@ impl Service {
         if item.seq() != upload.next {
             return request(reply, upload.next, sender, kind);
         }
-        let verdict = verdict(item, index, upload.count, usize::from(upload.jumps));
+        let room_taken = if upload.partial { 0 } else { usize::from(upload.jumps) };
+        let verdict = verdict(item, index, upload.count, room_taken);
         if verdict != result::ACCEPTED {
             plan.upload = None;
             return ack(reply, sender, verdict, kind, 0);
         }
-        let half = &mut self.items[usize::from(1 - plan.half)];
-        half[FIRST[index] + usize::from(upload.next)] = *item;
+        let place = FIRST[index] + usize::from(upload.next);
+        if upload.partial && self.items[usize::from(plan.half)][place].command() == DO_JUMP {
+            upload.jumps -= 1;
+        }
+        self.items[usize::from(1 - plan.half)][place] = *item;
         if item.command() == DO_JUMP {
             upload.jumps += 1;
         }
-        upload.next += 1;
-        if upload.next == upload.count {
-            return self.finish(sender, index, reply);
+        if upload.next == upload.last {
+            let upload = *upload;
+            plan.upload = None;
+            return self.finish(&upload, index, reply);
         }
+        upload.next += 1;
         upload.started = clock;
         upload.repeats = 0;
         request(reply, upload.next, sender, kind)
     }
 
-    /// All items of an upload are there: it ends, and they become the plan unless they are a fence that breaks the rule on fences.
-    fn finish(&mut self, sender: Station, index: usize, reply: Out) -> Served {
-        let plan = &mut self.plans[index];
-        let length = plan.upload.take().map_or(0, |upload| upload.count);
-        let kind = index as u8;
-        let from = FIRST[index];
-        let items = &self.items[usize::from(1 - plan.half)][from..from + usize::from(length)];
-        if index == FENCE && !fence::fits(items) {
-            return ack(reply, sender, result::INVALID, kind, 0);
+    /// The items of a whole upload, which stand in the other half, become the plan unless they are a fence that breaks the rule on fences.
+    fn finish(&mut self, upload: &Upload, index: usize, reply: Out) -> Served {
+        if upload.partial {
+            return self.finish_partial(upload, index, reply);
         }
-        let number = plan.replace(length);
+        let (station, kind) = (upload.station, index as u8);
+        let half = 1 - self.plans[index].half;
+        if index == FENCE && !fence::fits(self.plan(half, index, upload.count)) {
+            return ack(reply, station, result::INVALID, kind, 0);
+        }
+        self.plans[index].half = half;
+        let number = self.plans[index].renumber(upload);
         if index == FLIGHT {
             self.restart_flight();
         }
-        ack(reply, sender, result::ACCEPTED, kind, number)
+        ack(reply, station, result::ACCEPTED, kind, number)
+    }
+
+    /// The items of a partial upload change places with those of the plan that they replace, unless the whole then has jumps too many or is a fence that
+    /// breaks the rule on fences.
+    fn finish_partial(&mut self, upload: &Upload, index: usize, reply: Out) -> Served {
+        let (station, kind) = (upload.station, index as u8);
+        if usize::from(upload.jumps) > MOST_JUMPS {
+            return ack(reply, station, result::NO_SPACE, kind, 0);
+        }
+        self.swap(upload, index);
+        if index == FENCE && !fence::fits(self.plan(self.plans[FENCE].half, FENCE, upload.count)) {
+            self.swap(upload, index);
+            return ack(reply, station, result::INVALID, kind, 0);
+        }
+        let number = self.plans[index].renumber(upload);
+        if index == FLIGHT {
+            self.runs = [0; MOST_JUMPS];
+        }
+        ack(reply, station, result::ACCEPTED, kind, number)
+    }
+
+    /// Items of one kind from the first on in a half.
+    fn plan(&self, half: u8, index: usize, count: u16) -> &[Item] {
+        &self.items[usize::from(half)][FIRST[index]..][..usize::from(count)]
+    }
+
+    fn swap(&mut self, upload: &Upload, index: usize) {
+        let [first, last] = [upload.first, upload.last].map(|seq| FIRST[index] + usize::from(seq));
+        let [one, other] = &mut self.items;
+        one[first..=last].swap_with_slice(&mut other[first..=last]);
+    }
+
+    /// The bytes of an item of a plan.
+    pub fn stored(&self, index: usize, seq: usize) -> [u8; ITEM_BYTES] {
+        self.items[usize::from(self.plans[index].half)][FIRST[index] + seq].0
     }
 
     fn empty(&mut self, index: usize) {

@@ -22,7 +22,12 @@ fn call(
 const LENT: (usize, usize) = (STORE_WORDS, REPLY_BYTES);
 
 fn upload() -> Upload {
-    Upload { station: TABLET, count: 32, next: 0, started: 0, repeats: 0, jumps: 0 }
+    Upload::whole(TABLET, 32, 0)
+}
+
+/// A partial upload of items 3 to 5 of eight.
+fn partial() -> Upload {
+    Upload { next: 3, partial: true, first: 3, last: 5, ..Upload::whole(TABLET, 8, 0) }
 }
 
 #[test]
@@ -49,13 +54,15 @@ fn refusals_come_in_their_order() {
 
 #[test]
 fn each_number_has_its_range() {
-    let spoil: [fn(&mut Service); 9] = [
+    let spoil: [fn(&mut Service); 11] = [
         |service| service.plans[FLIGHT].length = 257,
         |service| service.plans[RALLY].length = 33,
         |service| service.plans[RALLY].upload = Some(Upload { count: 0, ..upload() }),
         |service| service.plans[RALLY].upload = Some(Upload { count: 33, ..upload() }),
         |service| service.plans[RALLY].upload = Some(Upload { next: 32, ..upload() }),
         |service| service.plans[RALLY].upload = Some(Upload { repeats: 6, ..upload() }),
+        |service| service.plans[RALLY].upload = Some(Upload { first: 1, next: 1, ..upload() }),
+        |service| service.plans[RALLY].upload = Some(Upload { last: 30, ..upload() }),
         |service| service.current = 1,
         |service| service.runs[0] = 32_768,
         |service| service.runs[MOST_JUMPS - 1] = 65_535,
@@ -71,6 +78,32 @@ fn each_number_has_its_range() {
     service.current = 255;
     service.runs = [32_767; MOST_JUMPS];
     assert_eq!(call(&mut service, ACK, &[1], 0, LENT), (1, vec![]));
+}
+
+#[test]
+fn each_number_of_a_partial_upload_has_its_range() {
+    let served = |length, upload: Upload| {
+        let mut service = Service::fresh();
+        service.plans[FENCE].length = length;
+        service.plans[FENCE].upload = Some(upload);
+        call(&mut service, ACK, &[1], 0, LENT).0
+    };
+    for next in 3..=5 {
+        assert_eq!(served(8, Upload { next, repeats: 5, ..partial() }), 1);
+    }
+    let bad = [
+        Upload { count: 7, ..partial() },
+        Upload { count: 9, ..partial() },
+        Upload { next: 2, ..partial() },
+        Upload { next: 6, ..partial() },
+        Upload { last: 8, ..partial() },
+        Upload { first: 4, ..partial() },
+        Upload { repeats: 6, ..partial() },
+    ];
+    for upload in bad {
+        assert_eq!(served(8, upload), 15);
+    }
+    assert_eq!(served(7, partial()), 15);
 }
 
 #[test]

@@ -1,6 +1,7 @@
 //! Episodes: each drives the service into one part of its rules for some calls.
 
 use super::{values, Generator};
+use crate::fault::Fault;
 use crate::layout::*;
 use crate::limits::*;
 use crate::script::{field, record, Record};
@@ -11,15 +12,25 @@ type Episode = fn(&mut Generator);
 const EPISODES: &[(usize, Episode)] = &[
     (24, Generator::small_upload),
     (2, Generator::full_upload),
-    (48, Generator::edge_items),
+    (72, Generator::edge_items),
     (14, Generator::fence_upload),
     (14, Generator::fly),
     (8, Generator::fly_loop),
     (4, Generator::many_jumps),
     (10, Generator::expiries),
     (6, Generator::counts),
+    (24, Generator::partial_upload),
+    (12, Generator::ranges),
+    (16, Generator::edge_changes),
+    (12, Generator::change_jumps),
+    (12, Generator::change_fence),
+    (12, Generator::change_on_the_way),
+    (2, Generator::change_full_plan),
+    (10, Generator::host_writes_change),
+    (8, Generator::poke_change),
     (8, Generator::refusals),
     (8, Generator::out_of_range),
+    (12, Generator::bad_uploads),
     (6, Generator::poke_in_range),
     (4, Generator::poke_number),
     (12, Generator::host_writes_plan),
@@ -51,7 +62,8 @@ impl Generator {
 
     /// A dump, less often if it is long.
     pub(super) fn maybe_dump(&mut self, of: usize, outof: usize) {
-        let shown = |kind| self.length(kind) + self.upload(kind).map_or(0, |upload| upload.next);
+        let taken = |upload: Upload| upload.next - upload.first;
+        let shown = |kind| self.length(kind) + self.upload(kind).map_or(0, taken);
         let long = (0..KINDS).map(shown).sum::<u16>() >= SMALL_DUMP;
         if self.random.chance(of, outof) && (!long || self.random.chance(1, 10)) {
             self.dump();
@@ -207,9 +219,16 @@ impl Generator {
     /// Timer calls on a running upload, with items in between.
     fn expiries(&mut self) {
         let kind = self.any_kind();
-        if self.upload(kind).is_none() {
-            let items = values::plan(&mut self.random, kind, 4, 1);
-            self.start(kind, items);
+        match self.upload(kind) {
+            Some(_) => {}
+            None if self.random.chance(1, 2) => {
+                self.start_some_change(kind);
+                self.send_expected(kind);
+            }
+            None => {
+                let items = values::plan(&mut self.random, kind, 4, 1);
+                self.start(kind, items);
+            }
         }
         if self.random.chance(1, 3) {
             self.jump_clock(kind);
@@ -229,8 +248,9 @@ impl Generator {
     fn counts(&mut self) {
         let kind = self.any_kind();
         for _ in 0..self.random.within(2, 6) {
-            match self.random.below(4) {
+            match self.random.below(5) {
                 0 => self.send_expected(kind),
+                1 => self.own_change(kind),
                 _ => self.own_count(kind),
             }
         }
@@ -284,7 +304,7 @@ impl Generator {
                 self.poke_length(kind, length);
             }
             1 => {
-                let upload = self.bad_upload(size);
+                let upload = self.bad_upload(kind);
                 self.poke_upload(kind, Some(upload));
             }
             2 => {
@@ -307,25 +327,55 @@ impl Generator {
         self.maybe_dump(1, 2);
     }
 
-    pub(super) fn bad_upload(&mut self, size: u16) -> Upload {
-        let good = self.good_upload(size);
-        match self.random.below(4) {
-            0 => Upload { count: 0, next: 0, ..good },
-            1 => Upload { count: size + 1, ..good },
+    /// Uploads out of range, one after another, with calls that they hinder.
+    fn bad_uploads(&mut self) {
+        let kind = self.any_kind();
+        self.ensure_plan(kind);
+        let before = self.upload(kind);
+        for _ in 0..self.random.within(2, 6) {
+            let bad = self.bad_upload(kind);
+            self.poke_upload(kind, Some(bad));
+            match self.random.below(4) {
+                0 => self.dump(),
+                1 => self.any_timer(kind),
+                2 => self.move_in_bad_state(),
+                _ => self.any_request(kind),
+            }
+        }
+        self.poke_upload(kind, before);
+    }
+
+    /// An upload with a number out of its range, whole or partial.
+    pub(super) fn bad_upload(&mut self, kind: usize) -> Upload {
+        if self.random.chance(1, 2) {
+            return self.bad_change(kind);
+        }
+        let (size, good) = (PLAN_SIZE[kind], self.good_whole(kind));
+        let far = self.random.pick(&[good.count, size, u16::MAX]);
+        match self.random.below(7) {
+            0 => Upload { repeats: good.repeats, ..Upload::whole(good.station, 0, good.start) },
+            1 => Upload { count: size + 1, last: size, ..good },
             2 => Upload { next: good.count, ..good },
+            3 => Upload { first: self.random.pick(&[1, good.last.max(1), far]), ..good },
+            4 => Upload { last: good.last.wrapping_sub(1), ..good },
+            5 => Upload { last: far, ..good },
             _ => Upload { repeats: self.random.pick(&[6, 255]), ..good },
         }
     }
 
-    pub(super) fn good_upload(&mut self, size: u16) -> Upload {
-        let most = self.random.pick(&[4, size]);
+    /// An upload whose numbers are in range, whole or partial.
+    pub(super) fn good_upload(&mut self, kind: usize) -> Upload {
+        let change = if self.random.chance(1, 2) { self.good_change(kind) } else { None };
+        change.unwrap_or_else(|| self.good_whole(kind))
+    }
+
+    fn good_whole(&mut self, kind: usize) -> Upload {
+        let most = self.random.pick(&[4, PLAN_SIZE[kind]]);
         let count = self.random.within(1, usize::from(most)) as u16;
         Upload {
-            station: self.any_station(),
-            count,
             next: self.random.below(usize::from(count)) as u16,
-            start: self.clock,
             repeats: self.random.within(0, 5) as u8,
+            ..Upload::whole(self.any_station(), count, self.clock)
         }
     }
 
@@ -345,12 +395,17 @@ impl Generator {
         self.compare();
     }
 
-    /// Pokes the progress back into its range, if need be.
+    /// Pokes the progress back into its range, and ends uploads, if need be.
     pub(super) fn ensure_range(&mut self) {
-        if !self.state().in_range() {
+        if !self.state().in_range(Fault::None) {
             self.poke(field::CURRENT, 0, 0);
         }
-        if !self.state().in_range() {
+        for kind in 0..KINDS {
+            if !self.state().in_range(Fault::None) && self.upload(kind).is_some() {
+                self.poke_upload(kind, None);
+            }
+        }
+        if !self.state().in_range(Fault::None) {
             self.fresh();
         }
     }
@@ -368,7 +423,10 @@ impl Generator {
                 let half = self.random.below(2) as u8;
                 self.poke_half(kind, half);
             }
-            2 => self.poke_running_upload(kind, size),
+            2 => {
+                let upload = self.good_upload(kind);
+                self.poke_with_items(kind, upload);
+            }
             3 => self.poke_upload(kind, None),
             4 => self.poke_progress(),
             _ => {
@@ -385,14 +443,14 @@ impl Generator {
         }
     }
 
-    /// Pokes an upload, sometimes after writing its taken items.
-    fn poke_running_upload(&mut self, kind: usize, size: u16) {
-        let upload = self.good_upload(size);
+    /// Pokes an upload, and mostly writes the items that it took.
+    pub(super) fn poke_with_items(&mut self, kind: usize, upload: Upload) {
         let items = values::plan(&mut self.random, kind, upload.count, 2);
         self.poke_upload(kind, Some(upload));
         let shelf = self.state().upload_shelf(kind);
         if self.random.chance(2, 3) {
-            self.write_items(shelf, 0, &items[..usize::from(upload.next)]);
+            let taken = usize::from(upload.first)..usize::from(upload.next);
+            self.write_items(shelf, upload.first, &items[taken]);
         }
         self.planned[kind] = items;
     }

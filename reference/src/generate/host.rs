@@ -68,7 +68,7 @@ impl Generator {
     }
 
     /// Writes over an item: whole, one field of it, its last word, or some words.
-    fn write_over(&mut self, shelf: Shelf, index: u16, count: u16) {
+    pub(super) fn write_over(&mut self, shelf: Shelf, index: u16, count: u16) {
         let last = shelf.offset(index) + ITEM_WORDS - 1;
         let item = match self.random.below(6) {
             0 => values::edge_item(&mut self.random, shelf.kind, index, count),
@@ -95,7 +95,7 @@ impl Generator {
     }
 
     /// Writes jumps over the front of the plan, more than it may have.
-    fn write_many_jumps(&mut self, shelf: Shelf, length: u16) {
+    pub(super) fn write_many_jumps(&mut self, shelf: Shelf, length: u16) {
         if shelf.kind != FLIGHT || length < 3 {
             return;
         }
@@ -122,8 +122,9 @@ impl Generator {
         }
         for _ in 0..self.random.within(1, 2) {
             let Some(upload) = self.upload(kind) else { return };
-            if upload.next > 0 {
-                let index = self.random.below(usize::from(upload.next)) as u16;
+            let taken = usize::from(upload.next - upload.first);
+            if taken > 0 {
+                let index = upload.first + self.random.below(taken) as u16;
                 let shelf = self.state().upload_shelf(kind);
                 self.write_over(shelf, index, upload.count);
             }

@@ -2,23 +2,26 @@
 //! knows which uploads run and can go on with them.
 //!
 //! After an expected invalid item, or a last item whose fence fails, the words
-//! of its place are free. The generator remembers such places and shows none of
-//! them: it writes over them before a POKE, and leaves CMP out.
+//! of its place are free; after a partial upload whose whole fails, those of as
+//! many places as the plan has items. The generator remembers such places and
+//! shows none of them: it writes over them before a POKE, and leaves CMP out.
 
 mod endings;
 mod episodes;
 mod host;
 mod moves;
 mod noise;
+mod partial;
 mod values;
 
 use crate::fault::Fault;
+use crate::items::result;
 use crate::layout::{address, Address, Item, Message};
 use crate::limits::*;
 use crate::player::Player;
 use crate::random::Random;
 use crate::script::{array, field, record, script_bytes, Record};
-use crate::script::{MAX_PAYLOAD, REPLY_ARRAY, STORE_ARRAY};
+use crate::script::{MAX_PAYLOAD, REPLY_ARRAY, STORE_ARRAY, WITHOUT_HALF};
 use crate::state::{State, Upload};
 use crate::store::Shelf;
 
@@ -153,7 +156,8 @@ impl Generator {
         self.records.push(record);
     }
 
-    /// Notes what an expected item does to the words of its place.
+    /// Notes what an expected item does to the words of its place, and a partial
+    /// upload's last one to all that are judged with it.
     fn note_item(&mut self, before: &State, record: &Record) {
         let Some(Message::ItemInt(item)) = Message::read(record.a, &record.payload) else {
             return;
@@ -166,11 +170,21 @@ impl Generator {
         if upload.station != sender || upload.next != item.seq {
             return;
         }
-        let reply = Message::read(returned.id, &self.mirror.reply[..returned.len]);
-        let refused = matches!(reply, Some(Message::Ack { result, .. }) if result != 0);
-        let place = before.upload_shelf(usize::from(item.kind)).place(item.seq);
-        self.comparable &= !refused && !self.free[place];
-        self.free[place] = refused;
+        let result = match Message::read(returned.id, &self.mirror.reply[..returned.len]) {
+            Some(Message::Ack { result, .. }) => result,
+            _ => result::ACCEPTED,
+        };
+        let refused = result != result::ACCEPTED;
+        let by_whole = !refused || [result::NO_SPACE, result::INVALID].contains(&result);
+        let places = match upload.partial && item.seq == upload.last && by_whole {
+            true => 0..upload.count,
+            false => item.seq..item.seq + 1,
+        };
+        let shelf = before.upload_shelf(usize::from(item.kind));
+        for place in places.map(|index| shelf.place(index)) {
+            self.comparable &= !refused && !self.free[place];
+            self.free[place] = refused;
+        }
     }
 
     /// Notes which places a host's write settles.
@@ -302,6 +316,11 @@ impl Generator {
         self.send(sender, Message::Count { count, to, kind, number });
     }
 
+    fn send_change(&mut self, sender: Address, kind: u8, (start, end): (i16, i16)) {
+        let to = self.target();
+        self.send(sender, Message::WritePartialList { start, end, to, kind });
+    }
+
     fn send_item(&mut self, sender: Address, item: Item) {
         let to = self.target();
         self.send(sender, Message::ItemInt(Item { to, ..item }));
@@ -350,7 +369,8 @@ impl Generator {
     }
 
     fn dump(&mut self) {
-        self.emit(Record::of(record::DUMP));
+        let shown = self.random.weighted(&[(5, 0), (1, WITHOUT_HALF)]);
+        self.emit(Record::about(record::DUMP, shown));
     }
 
     fn snap(&mut self) {
@@ -395,17 +415,7 @@ impl Generator {
     /// Pokes an upload whole.
     fn poke_upload(&mut self, kind: usize, upload: Option<Upload>) {
         self.settle_free_places(kind);
-        let Upload { station, count, next, start, repeats } = upload.unwrap_or_default();
-        let values = [
-            u32::from(upload.is_some()),
-            u32::from(station.system),
-            u32::from(station.component),
-            u32::from(count),
-            u32::from(next),
-            start,
-            u32::from(repeats),
-        ];
-        let pokes = Record::pokes(field::RUNNING, kind as u8, &values);
+        let pokes = Record::upload_pokes(kind as u8, upload);
         pokes.into_iter().for_each(|poke| self.emit(poke));
     }
 
@@ -413,11 +423,15 @@ impl Generator {
     fn settle_free_places(&mut self, kind: usize) {
         for half in [0, 1] {
             let shelf = Shelf::new(kind, half);
-            for index in 0..PLAN_SIZE[kind] {
-                if self.free[shelf.place(index)] {
-                    let item = values::valid_item(&mut self.random, kind, index, 2);
-                    self.write_items(shelf, index, &[item]);
-                }
+            let is_free = |free: &[bool], index: &u16| free[shelf.place(*index)];
+            let mut index = 0;
+            while index < PLAN_SIZE[kind] {
+                let run = index..PLAN_SIZE[kind];
+                let run = run.take_while(|index| is_free(&self.free, index)).count() as u16;
+                let item = |index| values::valid_item(&mut self.random, kind, index, 2);
+                let items: Vec<Item> = (index..index + run).map(item).collect();
+                self.write_items(shelf, index, &items);
+                index += run + 1;
             }
         }
     }

@@ -10,12 +10,12 @@ use crate::store::Shelf;
 impl Generator {
     /// Plans and uploads that stand in the old store are moved and looked at.
     pub(super) fn move_plans(&mut self) {
-        for (kind, size) in PLAN_SIZE.into_iter().enumerate() {
+        for kind in 0..KINDS {
             if self.random.chance(3, 4) {
                 self.old_plan(kind);
             }
             if self.random.chance(1, 3) {
-                let upload = self.good_upload(size);
+                let upload = self.good_upload(kind);
                 self.poke_upload(kind, Some(upload));
             }
         }
@@ -126,7 +126,7 @@ impl Generator {
     fn move_with_bad_upload(&mut self) {
         let kind = self.any_kind();
         let before = self.upload(kind);
-        let bad = self.bad_upload(PLAN_SIZE[kind]);
+        let bad = self.bad_upload(kind);
         self.poke_upload(kind, Some(bad));
         self.move_in_bad_state();
         self.poke_upload(kind, before);

@@ -15,6 +15,7 @@ const GENTLE: &[(usize, Act)] = &[
     (3, Generator::wrong_invalid_item),
     (4, Generator::foreign_item),
     (2, Generator::foreign_count),
+    (2, Generator::foreign_change),
     (2, Generator::foreign_clear),
     (2, Generator::foreign_ack),
     (2, Generator::accepting_ack),
@@ -32,6 +33,7 @@ const HARSH: &[(usize, Act)] = &[
     (4, Generator::any_timer),
     (1, Generator::ending_ack),
     (3, Generator::own_count),
+    (2, Generator::own_change),
     (1, Generator::own_clear),
     (2, Generator::expected_edge_item),
     (1, Generator::cut_item),
@@ -170,11 +172,12 @@ impl Generator {
     fn unknown_kind(&mut self, _kind: usize) {
         let sender = self.any_station();
         let kind = self.random.pick(&[3, 4, 7, 127, 128, 254, 255]);
-        match self.random.below(5) {
+        match self.random.below(6) {
             0 => self.send_count(sender, kind, 1),
             1 => self.send_request_list(sender, kind),
             2 => self.send_request_int(sender, 0, kind),
-            3 if kind != ALL_KINDS => self.send_clear(sender, kind),
+            3 => self.send_change(sender, kind, (0, 0)),
+            4 if kind != ALL_KINDS => self.send_clear(sender, kind),
             _ => {
                 let item = self.numbered_item(FLIGHT, 0);
                 self.send_item(sender, Item { kind, ..item });
@@ -280,12 +283,13 @@ impl Generator {
     fn weighty_message(&mut self, kind: usize) -> Message {
         let to = self.target();
         let wire_kind = kind as u8;
-        match self.random.below(6) {
+        match self.random.below(7) {
             0 => Message::Count { count: 0, to, kind: wire_kind, number: 0 },
             1 => Message::Count { count: 3, to, kind: wire_kind, number: 0 },
             2 => Message::ClearAll { to, kind: ALL_KINDS },
             3 => Message::Ack { to, result: 1, kind: wire_kind, number: 0 },
             4 => Message::SetCurrent { seq: 0, to },
+            5 => Message::WritePartialList { start: 0, end: 0, to, kind: wire_kind },
             _ => {
                 let item = self.expected_item(kind).unwrap_or_default();
                 Message::ItemInt(Item { to, kind: wire_kind, ..item })
@@ -317,7 +321,7 @@ impl Generator {
 
     fn unread_id(&mut self, id: u32) -> u32 {
         let any = self.random.word();
-        let others = [0, 38, 39, 40, 42, 46, 48, 50, 52, 72, 74, 253, 255];
+        let others = [0, 37, 39, 40, 42, 46, 48, 50, 52, 72, 74, 253, 255];
         let other = self.random.pick(&others);
         let wider = self.random.pick(&[1 << 8, 1 << 16, 1 << 24, 1 << 31]);
         self.random.weighted(&[(3, other), (3, id ^ wider), (1, any)])
@@ -327,6 +331,7 @@ impl Generator {
     fn foreign_target(&mut self, record: &mut Record) {
         let at = match record.a {
             SET_CURRENT | COUNT | REQUEST_INT => 2,
+            WRITE_PARTIAL_LIST => 4,
             ITEM_INT => 32,
             _ => 0,
         };

@@ -139,7 +139,7 @@ fn item_of(random: &mut Random, kind: usize, number: u16, count: u16, command: u
 }
 
 /// A valid jump, if the plan has another item to jump to.
-fn jump(random: &mut Random, number: u16, count: u16) -> Item {
+pub fn jump(random: &mut Random, number: u16, count: u16) -> Item {
     let near = i32::from(number) + random.pick(&[-3, -2, -1, 1, 2]);
     let target = if (0..i32::from(count)).contains(&near) {
         near as usize
@@ -189,7 +189,7 @@ pub fn plan(random: &mut Random, kind: usize, count: u16, jumps: usize) -> Vec<I
     items
 }
 
-fn without_jump(random: &mut Random, kind: usize, number: u16) -> Item {
+pub fn without_jump(random: &mut Random, kind: usize, number: u16) -> Item {
     valid_item(random, kind, number, 1)
 }
 
@@ -234,6 +234,16 @@ fn polygon(random: &mut Random, items: &mut Vec<Item>, most: usize) {
         let mut vertex = fence_item(random, items.len(), command);
         vertex.params[0] = bits(vertices);
         items.push(vertex);
+    }
+}
+
+/// Makes all the items the vertices of one polygon, or of one that is too small.
+pub fn one_polygon(random: &mut Random, items: &mut [Item]) {
+    let vertices = items.len().max(3);
+    let command = random.pick(&[VERTEX_INCLUSION, VERTEX_EXCLUSION]);
+    for item in items {
+        *item = fence_item(random, usize::from(item.seq), command);
+        item.params[0] = bits(vertices);
     }
 }
 
