@@ -35,13 +35,13 @@ cast-t24 : tie.Need-cast-t24
 cast-t24 c = fits-16-64 (c .struct-known3 .given .1 .1 .0)
 
 cast-t25 : tie.Need-cast-t25
-cast-t25 c = fits-16-64 (c .struct-known4 .given .1 .1 .1 .1 .1 .1 .0)
+cast-t25 c = fits-16-64 (c .struct-known4 .given .1 .1 .1 .1 .1 .1 .1 .0)
 
 cast-t26 : tie.Need-cast-t26
-cast-t26 c = fits-32-64 (c .struct-known5 .given .1 .1 .1 .1 .1 .1 .1 .0)
+cast-t26 c = fits-32-64 (c .struct-known5 .given .1 .1 .1 .1 .1 .1 .1 .1 .0)
 
 cast-t27 : tie.Need-cast-t27
-cast-t27 c = fits-8-64 (c .struct-known6 .given .1 .1 .1 .1 .1 .1 .1 .1 .0)
+cast-t27 c = fits-8-64 (c .struct-known6 .given .1 .1 .1 .1 .0)
 
 slice-aggregate-put-begun-2 : tie.Need-slice-aggregate-put-begun-2
 slice-aggregate-put-begun-2 c = refl
