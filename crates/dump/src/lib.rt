@@ -49,7 +49,7 @@ fn in_range(state: State) -> bool
     let flight = state.plans[0];
     let fence = state.plans[1];
     let rally = state.plans[2];
-    ranges::ranged(flight, fence, rally, state.current, &state.counts)
+    ranges::ranged(flight, fence, rally, state.current, state.counts)
 }
 
 // The whole dump; outcome 15 alone where a number of the state is out of its range. With the lowest bit of the options set no halves are told.

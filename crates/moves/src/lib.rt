@@ -95,7 +95,7 @@ pub fn to_words(mut state: State, old: &[u8], store: &mut [u32]) -> Moved
     let flight = state.plans[0];
     let fence = state.plans[1];
     let rally = state.plans[2];
-    let in_range = ranged(flight, fence, rally, state.current, &state.counts);
+    let in_range = ranged(flight, fence, rally, state.current, state.counts);
     let outcome = outcome_of(in_range, old.len(), store.len());
     if outcome != NO_REPLY {
         return Moved { state, outcome };

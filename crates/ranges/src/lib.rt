@@ -5,6 +5,7 @@ ghost use Rattle.plan.specs.View.{taskIn};
 ghost use Rattle.ranges.specs.Ranges.{runRanged, uploadRanged, planRanged, countsRanged, allRanged};
 use limits::FENCE;
 use limits::FLIGHT;
+use limits::JUMP_COUNTS;
 use limits::MAX_REPEATS;
 use limits::MAX_RUNS;
 use limits::RALLY;
@@ -52,12 +53,12 @@ fn plan_ranged(plan: Plan, size: u16) -> bool
 }
 
 // All are looked at: a loop that does not leave early is one that the compiler makes wide.
-fn counts_ranged(counts: &[u16]) -> bool
-    ensures { λ r. ⌜ r ≡ countsRanged (now (counts .entry)) ⌝ }
+fn counts_ranged(counts: [u16; JUMP_COUNTS]) -> bool
+    ensures { λ r. ⌜ r ≡ countsRanged counts ⌝ }
 {
     let mut ok = true;
     let mut i: usize = 0;
-    while i < counts.len() {
+    while i < JUMP_COUNTS {
         ok = ok & (counts[i] <= MAX_RUNS);
         i += 1;
     }
@@ -65,8 +66,14 @@ fn counts_ranged(counts: &[u16]) -> bool
 }
 
 // Whether every number of a state with these plans is in its range.
-pub fn ranged(flight: Plan, fence: Plan, rally: Plan, current: u16, counts: &[u16]) -> bool
-    ensures { λ r. ⌜ r ≡ allRanged flight fence rally current (now (counts .entry)) ⌝ }
+pub fn ranged(
+    flight: Plan,
+    fence: Plan,
+    rally: Plan,
+    current: u16,
+    counts: [u16; JUMP_COUNTS],
+) -> bool
+    ensures { λ r. ⌜ r ≡ allRanged flight fence rally current counts ⌝ }
 {
     plan_ranged(flight, size_of(FLIGHT))
         & plan_ranged(fence, size_of(FENCE))

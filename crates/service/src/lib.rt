@@ -71,7 +71,7 @@ pub fn message(
     let flight = state.plans[0];
     let fence = state.plans[1];
     let rally = state.plans[2];
-    let in_range = ranged(flight, fence, rally, state.current, &state.counts);
+    let in_range = ranged(flight, fence, rally, state.current, state.counts);
     let got = receive(id, payload);
     let head = got.head;
     let refused = message_refusal(
@@ -157,7 +157,7 @@ pub fn timer(mut state: State, store: &[u32], reply: &mut [u8], kind: u8, clock:
     let flight = state.plans[0];
     let fence = state.plans[1];
     let rally = state.plans[2];
-    let in_range = ranged(flight, fence, rally, state.current, &state.counts);
+    let in_range = ranged(flight, fence, rally, state.current, state.counts);
     let refused = timer_refusal(in_range, store.len(), reply.len(), kind);
     if refused != 0 {
         return Served {
@@ -190,7 +190,7 @@ pub fn advance(mut state: State, store: &[u32]) -> Advanced
     let flight = state.plans[0];
     let fence = state.plans[1];
     let rally = state.plans[2];
-    let in_range = ranged(flight, fence, rally, state.current, &state.counts);
+    let in_range = ranged(flight, fence, rally, state.current, state.counts);
     let refused = done_refusal(in_range, store.len());
     if refused != 0 {
         return Advanced {

@@ -21,12 +21,12 @@ outcome-of-requires c κs = search needs
 
 returns : tie.Need-returns
 returns c =
-    let a = c .before .before .before .before .before .before .before .before .before .before .before .args in
+    let a = c .before .before .before .before .before .before .before .before .before .args in
     refused (a .t1) (a .old .now) (a .store .now) _ _ (c .before .before .ranged .ensures) (c .before .outcome-of .ensures) (c .if1 .taken)
 
 move-plans-requires : tie.Need-move-plans-requires
 move-plans-requires c κs =
-    let a = c .before .before .before .before .before .before .before .before .before .before .before .before .args in
+    let a = c .before .before .before .before .before .before .before .before .before .before .args in
     let test = c .before .before .before .ranged .ensures in
     let said = c .before .before .outcome-of .ensures in
     let go = facts (a .t1) (a .old .now) (a .store .now) _ _ test said (c .before .if1 .left) in
@@ -47,7 +47,7 @@ same-length c = search needs
 returns-2 : tie.Need-returns-2
 returns-2 c =
     let before = c .before .before .before .before .before .before .before in
-    let a = before .before .before .before .before .before .before .before .before .before .before .before .args in
+    let a = before .before .before .before .before .before .before .before .before .before .args in
     moves (a .t1) (a .old .now) (a .store .now) _ _ (before .before .before .ranged .ensures) (before .before .outcome-of .ensures) (before .if1 .left)
     _ _ _ _ (c .before .before .ended .ensures) (c .before .ended2 .ensures) (c .ended3 .ensures) (c .before .before .before .before .before .move-plans .ensures)
 

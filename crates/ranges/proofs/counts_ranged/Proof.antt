@@ -9,7 +9,7 @@ use borrow.Author.Needs.{needs}
 use lib.ListN.{length, getD, take}
 use lib.Seq.{take-all}
 use lib.Dec.{leb}
-use Rattle.rules.specs.Limits.{maxRuns}
+use Rattle.rules.specs.Limits.{maxJumps, maxRuns}
 use Rattle.rules.specs.Model.{every}
 use Rattle.ranges.specs.Ranges.{countsRanged}
 use Rattle.ranges.proofs.Every.{every-more}
@@ -25,19 +25,19 @@ module _ (counts : List ℕ) (ok : Bool) (i : ℕ) (so-far : ok ≡ every (λ (n
   all-seen end = so-far ∙ ap (every (λ (n : ℕ). leb n maxRuns)) (take-all i counts end)
 
 abbrev Inv-loop : tie.InvT-loop
-Inv-loop counts ok₀ i₀ ok i = (i ≤ length counts) × (ok ≡ every (λ (n : ℕ). leb n maxRuns) (take i counts))
+Inv-loop counts ok₀ i₀ ok i = (i ≤ maxJumps) × (length counts ≡ maxJumps) × (ok ≡ every (λ (n : ℕ). leb n maxRuns) (take i counts))
 
 abbrev μ-loop : tie.MeasureT-loop
-μ-loop counts ok₀ i₀ ok i = length counts - i
+μ-loop counts ok₀ i₀ ok i = maxJumps - i
 
 loop-holds : tie.Need-loop-holds Inv-loop μ-loop
-loop-holds c = (omega arith, refl)
+loop-holds c = (omega arith, search needs, refl)
 
 mul-ok : tie.Need-mul-ok Inv-loop μ-loop
 mul-ok c = search needs
 
-shared-slice-read-ok : tie.Need-shared-slice-read-ok Inv-loop μ-loop
-shared-slice-read-ok c = search needs
+array-read-ok : tie.Need-array-read-ok Inv-loop μ-loop
+array-read-ok c = search needs
 
 add-i : tie.Need-add-i Inv-loop μ-loop
 add-i c = search needs
@@ -46,10 +46,10 @@ loop-less : tie.Need-loop-less Inv-loop μ-loop
 loop-less c = omega arith
 
 loop-again : tie.Need-loop-again Inv-loop μ-loop
-loop-again c = (omega arith, search (one-more, needs))
+loop-again c = (omega arith, search needs, search (one-more, needs))
 
 returns : tie.Need-returns Inv-loop μ-loop
-returns c = search (all-seen, needs)
+returns c = let l = c .before .loop in let long = l .inv .1 in all-seen _ _ (l .i) (l .inv .2) (omega arith)
 
 pub counts-ranged-spec : {M : Type 1} → statement M
 counts-ranged-spec =
@@ -59,7 +59,7 @@ counts-ranged-spec =
     μ-loop
     loop-holds
     mul-ok
-    shared-slice-read-ok
+    array-read-ok
     add-i
     loop-less
     loop-again

@@ -25,7 +25,7 @@ returns c = search (done-refused, needs)
 
 -- from where nothing was refused back to the call's beginning
 abbrev entry : tie.Else1 → tie.Start
-entry c = c .before .before .before .before .before .before .before .before .before .before
+entry c = c .before .before .before .before .before .before .before .before
 
 taken : (c : tie.Else1) → DoneTaken (entry c .args .t1) (entry c .args .store .now)
 taken c = search (done-taken, length-mapped, needs)

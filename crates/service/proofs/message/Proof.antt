@@ -31,7 +31,7 @@ returns c = search (message-refused, needs)
 
 -- from where nothing was refused back to the call's beginning
 abbrev entry : tie.Else1 → tie.Start
-entry c = c .before .before .before .before .before .before .before .before .before .before .before .before .before .before
+entry c = c .before .before .before .before .before .before .before .before .before .before .before .before
 
 three : (c : tie.Start) → length (c .args .t1 .plans) ≡ length kinds
 three c = search (length-mapped, needs)

@@ -25,7 +25,7 @@ returns c = search (timer-refused, needs)
 
 -- from where nothing was refused back to the call's beginning
 abbrev entry : tie.Else1 → tie.Start
-entry c = c .before .before .before .before .before .before .before .before .before .before .before
+entry c = c .before .before .before .before .before .before .before .before .before
 
 taken : (c : tie.Else1) → TimerTaken (entry c .args .t1) (entry c .args .store .now) (entry c .args .reply .now) (entry c .args .kind) (entry c .args .clock)
 taken c = search (timer-taken, length-mapped, needs)
