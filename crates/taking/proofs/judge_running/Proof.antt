@@ -43,18 +43,13 @@ returns : tie.Need-returns
 returns c = search (denies, needs)
 
 returns-2 : tie.Need-returns-2
-returns-2 c =
-    let own = c .before .before .before in
-    out-of-turn _ _ _ _ _ _ _ (own .before .is-from .ensures) (own .if1 .left) (c .if2 .taken)
+returns-2 c = search (out-of-turn, needs)
 
 result-of-requires : tie.Need-result-of-requires
 result-of-requires c κs = search needs
 
 returns-3 : tie.Need-returns-3
-returns-3 c =
-    let turn = c .before .before in
-    let own = turn .before .before .before in
-    fails _ _ _ _ _ _ _ (own .before .is-from .ensures) _ (own .if1 .left) (turn .if2 .left) (c .before .result-of .ensures) (c .if3 .taken)
+returns-3 c = search (fails, needs)
 
 returns-4 : tie.Need-returns-4
 returns-4 c = search (passes, needs)
