@@ -1,16 +1,19 @@
 -- Items of a kind carried from the half that they stand in to the same numbers' places in the other half; and a part (M-108) that is filled up so: "all others staying bit
 -- for bit".
-use mathlib.Core.Path.{_≡_, refl, _∙_, sym, ap}
-use mathlib.Core.List.{List, [], _++_}
-use mathlib.Core.Bool.{Bool, true, not, cond, Bool·not-not}
+use mathlib.Core.Path.{_≡_, _∙_, sym, ap, subst}
+use mathlib.Core.Logic.{_⊎_, inl, inr}
+use mathlib.Core.List.{List, []}
+use mathlib.Core.Bool.{Bool, true, not, Bool·not-not}
 use Prim.Native.Nat.{ℕ, zero, suc, _+_, _-_, _≤_, _<_}
 use native.Mathlib.Decide.{decLt}
 use native.Mathlib.Omega.{arith}
-use lib.ListN.{length, getD, take, drop, length-append, length-take, length-drop, List·getD-append}
-use lib.Seq.{getD-take, getD-drop, getD-append-add, ext-getD}
+use lib.ListN.{length, getD, drop, length-drop}
+use lib.Seq.{getD-drop, ext-getD}
 use Rattle.rules.specs.Limits.{rally, sizeOf}
 use Rattle.rules.specs.Payload.{Bytes}
 use Rattle.rules.specs.Model.{Task, whole}
+use Rattle.rule_laws.specs.Tasks.{TaskRanges}
+use Rattle.rule_laws.specs.Whole.{whole-length, whole-inside, whole-outside}
 use Rattle.places.specs.Part.{part, length-part-within}
 use Rattle.places.specs.Forms.{Store, Form, least, offsetOf, itemAt, itemsIn, length-items, items-at}
 use Rattle.places.specs.Places.{Lawful, offset-within}
@@ -82,103 +85,93 @@ module _ (F : Form) (lawful : Lawful F) (half : Bool) (kind : ℕ) (known : kind
             ∙ rest .items half kind (low + n) known (omega arith) (otherHalf own-half)
             ∙ ap (itemAt F s half kind) (sym is)
 
-  -- a part of a plan in `half`, whose items stand in the other half
-  module _ (s : Store) (long : least F ≤ length s) (t : Task) (order : t .first ≤ t .last) (inside : t .last < t .count) (within : t .count ≤ sizeOf kind) where
+  -- a part of a plan of `len` items in `half`, whose own items stand in the other half
+  module _ (s : Store) (long : least F ≤ length s) (t : Task) (next len : ℕ) (ranges : TaskRanges len t next) (within : t .count ≤ sizeOf kind) where
     abbrev front : Store
     front = carried F s half kind 0 (t .first)
 
     abbrev rest : ℕ
     rest = t .count - (t .last + 1)
 
+    order : t .first ≤ t .last
+    order =
+        let a = ranges .begun in
+        let b = ranges .upto in
+        omega arith
+
+    inside : t .last < t .count
+    inside = ranges .inside
+
     front-leaves : Leaves F (not half) kind 0 (t .first) s front
-    front-leaves = leaves-wider F (not half) kind 0 (0 + t .first) 0 (t .first) s front (omega arith) (omega arith) (carried-leaves s long 0 (t .first) (omega arith))
+    front-leaves =
+        leaves-wider F (not half) kind 0 (0 + t .first) 0 (t .first) s front (omega arith) (omega arith) (carried-leaves s long 0 (t .first) (omega (arith, order, inside)))
 
     front-long : least F ≤ length front
     front-long = omega (arith, front-leaves .long)
 
     rest-leaves : Leaves F (not half) kind (t .last + 1) (t .last + 1 + rest) front (filled F s half kind t)
     unfolding filled
-    rest-leaves = carried-leaves front front-long (t .last + 1) rest (omega arith)
+    rest-leaves = carried-leaves front front-long (t .last + 1) rest (omega (arith, inside))
 
     pub filled-leaves : Leaves F (not half) kind 0 (t .count) s (filled F s half kind t)
     filled-leaves =
         leaves-both F (not half) kind 0 (t .count) s front (filled F s half kind t)
-        (leaves-wider F (not half) kind 0 (t .first) 0 (t .count) s front (omega arith) (omega arith) front-leaves)
-        (leaves-wider F (not half) kind (t .last + 1) (t .last + 1 + rest) 0 (t .count) front (filled F s half kind t) (omega arith) (omega arith) rest-leaves)
+        (leaves-wider F (not half) kind 0 (t .first) 0 (t .count) s front (omega arith) (omega (arith, order, inside)) front-leaves)
+        (leaves-wider F (not half) kind (t .last + 1) (t .last + 1 + rest) 0 (t .count) front (filled F s half kind t) (omega arith) (omega (arith, inside)) rest-leaves)
 
     -- what stands in the other half then: the plan's items before the part, the part's own, and the plan's items behind it
     at-front : (i : ℕ) → i < t .first → itemAt F (filled F s half kind t) (not half) kind i ≡ itemAt F s half kind i
     at-front i lower =
-        rest-leaves .items (not half) kind i known (omega arith) (before (omega arith)) ∙ carried-item s long 0 (t .first) i (omega arith) (omega arith) (omega arith)
+        rest-leaves .items (not half) kind i known (omega (arith, order, inside)) (before (omega (arith, order)))
+        ∙ carried-item s long 0 (t .first) i (omega (arith, order, inside)) (omega arith) (omega arith)
 
     at-part : (i : ℕ) → t .first ≤ i → i ≤ t .last → itemAt F (filled F s half kind t) (not half) kind i ≡ itemAt F s (not half) kind i
     at-part i from upto =
-        rest-leaves .items (not half) kind i known (omega arith) (before (omega arith)) ∙ front-leaves .items (not half) kind i known (omega arith) (behind from)
+        rest-leaves .items (not half) kind i known (omega (arith, inside)) (before (omega arith)) ∙ front-leaves .items (not half) kind i known (omega (arith, inside)) (behind from)
 
     at-rest : (i : ℕ) → t .last < i → i < t .count → itemAt F (filled F s half kind t) (not half) kind i ≡ itemAt F s half kind i
     unfolding filled
     at-rest i past upto =
         carried-item front front-long (t .last + 1) rest i (omega arith) (omega arith) (omega arith) ∙ front-leaves .items half kind i known (omega arith) (otherHalf own-half)
 
-    abbrev old : List Bytes
-    old = itemsIn F s half kind (t .count)
-
-    abbrev got : List Bytes
-    got = drop (t .first) (itemsIn F s (not half) kind (t .last + 1))
-
-    abbrev upto-last : List Bytes
-    upto-last = take (t .first) old ++ got
-
-    old-length : length old ≡ t .count
-    old-length = length-items F s half kind (t .count)
-
-    got-length : length got ≡ t .last + 1 - t .first
-    got-length = length-drop (t .first) (itemsIn F s (not half) kind (t .last + 1)) ∙ ap (λ (n : ℕ). n - t .first) (length-items F s (not half) kind (t .last + 1))
-
-    front-length : length (take (t .first) old) ≡ t .first
-    front-length = length-take (t .first) old ∙ omega (arith, old-length)
-
-    upto-length : length upto-last ≡ t .last + 1
-    upto-length = omega (arith, length-append (take (t .first) old) got, front-length, got-length)
-
-    at-place : (i : ℕ) → i < t .count → getD (itemsIn F (filled F s half kind t) (not half) kind (t .count)) i [] ≡ getD (upto-last ++ drop (t .last + 1) old) i []
-    at-place i below = items-at F (filled F s half kind t) (not half) kind (t .count) i below ∙ sym (go (decLt i (t .first)) (decLt (t .last) i))
-      where
-        go : Dec (i < t .first) → Dec (t .last < i) → getD (upto-last ++ drop (t .last + 1) old) i [] ≡ itemAt F (filled F s half kind t) (not half) kind i
-        go (yes low) d =
-            List·getD-append upto-last (drop (t .last + 1) old) [] i (omega (arith, upto-length))
-            ∙ List·getD-append (take (t .first) old) got [] i (omega (arith, front-length))
-            ∙ getD-take (t .first) old i [] low
-            ∙ items-at F s half kind (t .count) i below
-            ∙ sym (at-front i low)
-        go (no from) (no upto) =
-            let j = i - t .first in
-            let is : i ≡ length (take (t .first) old) + j = omega (arith, front-length) in
-            let back : t .first + j ≡ i = omega arith in
-            List·getD-append upto-last (drop (t .last + 1) old) [] i (omega (arith, upto-length))
-            ∙ ap (λ (k : ℕ). getD upto-last k []) is
-            ∙ getD-append-add (take (t .first) old) got j []
-            ∙ getD-drop (t .first) (itemsIn F s (not half) kind (t .last + 1)) j []
-            ∙ ap (λ (k : ℕ). getD (itemsIn F s (not half) kind (t .last + 1)) k []) back
-            ∙ items-at F s (not half) kind (t .last + 1) i (omega arith)
-            ∙ sym (at-part i (omega arith) (omega arith))
-        go (no from) (yes past) =
-            let j = i - (t .last + 1) in
-            let is : i ≡ length upto-last + j = omega (arith, upto-length) in
-            let back : t .last + 1 + j ≡ i = omega arith in
-            ap (λ (k : ℕ). getD (upto-last ++ drop (t .last + 1) old) k []) is
-            ∙ getD-append-add upto-last (drop (t .last + 1) old) j []
-            ∙ getD-drop (t .last + 1) old j []
-            ∙ ap (λ (k : ℕ). getD old k []) back
-            ∙ items-at F s half kind (t .count) i below
-            ∙ sym (at-rest i past below)
-
     -- the other half then has what the rules put in
-    pub part-whole : t .partial ≡ true → itemsIn F (filled F s half kind t) (not half) kind (t .count) ≡ whole t old got
-    unfolding whole
-    part-whole partial =
-        ext-getD [] (itemsIn F (filled F s half kind t) (not half) kind (t .count)) (upto-last ++ drop (t .last + 1) old)
-        (length-items F (filled F s half kind t) (not half) kind (t .count)
-        ∙ omega (arith, length-append upto-last (drop (t .last + 1) old), length-drop (t .last + 1) old, upto-length, old-length))
-        (λ i lower. at-place i (omega (arith, length-items F (filled F s half kind t) (not half) kind (t .count))))
-        ∙ ap (λ (b : Bool). cond b (take (t .first) old ++ got ++ drop (t .last + 1) old) got) (sym partial)
+    module _ (partial : t .partial ≡ true) where
+      abbrev old : List Bytes
+      old = itemsIn F s half kind len
+
+      abbrev got : List Bytes
+      got = drop (t .first) (itemsIn F s (not half) kind (t .last + 1))
+
+      old-ranges : TaskRanges (length old) t next
+      old-ranges = subst (λ (n : ℕ). TaskRanges n t next) (sym (length-items F s half kind len)) ranges
+
+      all-got : t .first + length got ≡ t .last + 1
+      all-got = omega (arith, length-drop (t .first) (itemsIn F s (not half) kind (t .last + 1)), length-items F s (not half) kind (t .last + 1), order)
+
+      -- an item of the plan's own
+      old-at : (i : ℕ) → i < t .count → (i < t .first) ⊎ (t .last < i) → itemAt F s half kind i ≡ getD (whole t old got) i []
+      old-at i below apart =
+          let count = ranges .part partial in
+          sym (items-at F s half kind len i (omega arith)) ∙ sym (whole-outside t next old got old-ranges all-got i below apart)
+
+      at-place : (i : ℕ) → i < t .count → getD (itemsIn F (filled F s half kind t) (not half) kind (t .count)) i [] ≡ getD (whole t old got) i []
+      at-place i below = items-at F (filled F s half kind t) (not half) kind (t .count) i below ∙ go (decLt i (t .first)) (decLt (t .last) i)
+        where
+          go : Dec (i < t .first) → Dec (t .last < i) → itemAt F (filled F s half kind t) (not half) kind i ≡ getD (whole t old got) i []
+          go (yes low) d = at-front i low ∙ old-at i below (inl low)
+          go (no from) (yes past) = at-rest i past below ∙ old-at i below (inr past)
+          go (no from) (no upto) =
+              let j = i - t .first in
+              let back : t .first + j ≡ i = omega arith in
+              at-part i (omega arith) (omega arith)
+              ∙ sym (items-at F s (not half) kind (t .last + 1) i (omega arith))
+              ∙ ap (λ (n : ℕ). getD (itemsIn F s (not half) kind (t .last + 1)) n []) (sym back)
+              ∙ sym (getD-drop (t .first) (itemsIn F s (not half) kind (t .last + 1)) j [])
+              ∙ sym (whole-inside t next old got old-ranges all-got j (omega (arith, all-got)))
+              ∙ ap (λ (n : ℕ). getD (whole t old got) n []) back
+
+      pub part-whole : itemsIn F (filled F s half kind t) (not half) kind (t .count) ≡ whole t old got
+      part-whole =
+          ext-getD [] (itemsIn F (filled F s half kind t) (not half) kind (t .count)) (whole t old got)
+          (length-items F (filled F s half kind t) (not half) kind (t .count) ∙ sym (whole-length t next old got old-ranges all-got))
+          (λ i lower. at-place i (omega (arith, length-items F (filled F s half kind t) (not half) kind (t .count))))

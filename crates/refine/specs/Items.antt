@@ -14,7 +14,7 @@ use Rattle.rules.specs.Limits.{flight, fence, rally, kinds, sizeOf, accepted, i
 use Rattle.rules.specs.Payload.{Bytes}
 use Rattle.rules.specs.Messages.{Station, Item, ack, itemOf, sameStation}
 use Rattle.rules.specs.Model as model
-use Rattle.rules.specs.Model.{Task, idle, running, whole, wholeFault, nextNumber, withPlan, uploadInRange, inRange}
+use Rattle.rules.specs.Model.{idle, running, whole, wholeFault, nextNumber, withPlan, uploadInRange, inRange}
 use Rattle.rules.specs.Calls.{isKnown}
 use Rattle.rules.specs.Step.{Stepped, Answer, says, acks, requests, onValidItem, onItem}
 use Rattle.rules.specs.Step as rule
@@ -36,7 +36,7 @@ use Rattle.upload.specs.declared.Say.{Say}
 use Rattle.upload.specs.declared.Say.the-variants.{Ack, Ask}
 use Rattle.upload.specs.declared.Effect.the-variants.{Renews, Changes}
 use Rattle.upload.specs.declared.Turned.{Turned}
-use Rattle.upload.specs.Turns.{withUpload, ended, replaced, oneMore, moves, putsIn, TurnAndStore, turnWith, settled, lastTurned, validItemTurned, itemVerdict, itemTurned}
+use Rattle.upload.specs.Turns.{withUpload, replaced, oneMore, moves, putsIn, TurnAndStore, turnWith, settled, lastTurned, validItemTurned, itemVerdict, itemTurned}
 use Rattle.upload.specs.Effects.{renewedState, applied}
 use Rattle.answers.specs.Answered.{answerOf}
 use Rattle.refine.specs.After.{afterTurn, afterItem}
@@ -154,9 +154,8 @@ module _ (F : Form) (lawful : Lawful F) where
       where
         go : Leaves F other k 0 (r .count) s s′ → (b : Bool) → r .partial ≡ b → Leaves F other k 0 (r .count) s (cond b (filled F s′ (planOf st k .half) k (taskIn r)) s′)
         go all true part =
-            let t = ranges .task in
             leaves-both F other k 0 (r .count) s s′ (filled F s′ (planOf st k .half) k (taskIn r)) all
-            (filled-leaves F lawful (planOf st k .half) k small s′ long′ (taskIn r) (let a = t .begun in let b = t .upto in omega arith) (t .inside) (ranges .most))
+            (filled-leaves F lawful (planOf st k .half) k small s′ long′ (taskIn r) (r .next) (planOf st k .len) (ranges .task) (ranges .most))
         go all false part = all
 
     abbrev run : model.Run
@@ -188,12 +187,9 @@ module _ (F : Form) (lawful : Lawful F) where
 
           go : (b : Bool) → r .partial ≡ b → itemsIn F (cond (r .partial) (filled F s′ (planOf st k .half) k (taskIn r)) s′) other k (r .count) ≡ whole (taskIn r) old got
           go true part =
-              let t = ranges .task in
-              let count = t .part part in
               ap (λ (b : Bool). itemsIn F (cond b (filled F s′ (planOf st k .half) k (taskIn r)) s′) other k (r .count)) part
-              ∙ part-whole F lawful (planOf st k .half) k small s′ long′ (taskIn r) (let a = t .begun in let b = t .upto in omega arith) (t .inside) (ranges .most) part
-              ∙ ap₂ (whole (taskIn r))
-              (ap (itemsIn F s′ (planOf st k .half) k) count ∙ items-stay st s s′ ranged k known (r .next) (r .next + 1) written k known)
+              ∙ part-whole F lawful (planOf st k .half) k small s′ long′ (taskIn r) (r .next) (planOf st k .len) (ranges .task) (ranges .most) part
+              ∙ ap₂ (whole (taskIn r)) (items-stay st s s′ ranged k known (r .next) (r .next + 1) written k known)
               (ap (λ (n : ℕ). drop (r .first) (itemsIn F s′ other k (n + 1))) (sym last) ∙ taken-more)
           go false all =
               let t = ranges .task in

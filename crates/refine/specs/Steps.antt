@@ -6,7 +6,7 @@ use mathlib.Core.List.{List, [], _∷_}
 use mathlib.Core.Bool.{Bool, true, false, true≢false, not, cond, _&&_, and-false, or-false}
 use lib.ListN.{length, getD, set, length-set}
 use lib.Dec.{eqb, ltb}
-use borrow.Author.Tests.{leb-true, le-leb, eq-eqb, ne-eqb, eqb-true, not-true, not-false}
+use borrow.Author.Tests.{le-leb, eq-eqb, ne-eqb, eqb-true, not-true, not-false}
 use Rattle.rules.specs.Limits.{flight, rally, kinds, everyKind, sizeOf, accepted, maxRepeats, expiryMs, lastNumber}
 use Rattle.rules.specs.Messages.{Station, Item, sameStation}
 use Rattle.rules.specs.Model as model

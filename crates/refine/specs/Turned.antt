@@ -3,7 +3,7 @@ use Prim.Native.Nat.{ℕ}
 use mathlib.Core.Path.{_≡_, refl, sym, ap, _∙_}
 use mathlib.Core.List.{List, [], _∷_}
 use mathlib.Core.Bool.{Bool, true, false, not, _&&_}
-use lib.ListN.{length, set, drop}
+use lib.ListN.{length, set}
 use lib.Dec.{eqb, ltb}
 use lib.ListN.{drop-of-length-le}
 use native.Mathlib.Nat.{le-of-eq}

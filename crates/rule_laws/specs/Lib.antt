@@ -8,6 +8,7 @@ pub mod Layout
 pub mod Decode
 pub mod Kinds
 pub mod Tasks
+pub mod Whole
 pub mod Written
 pub mod Heard
 pub mod Brought

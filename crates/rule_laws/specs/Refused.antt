@@ -7,7 +7,7 @@ use lib.Dec.{eqb, ltb}
 use borrow.Author.Tests.{ltb-false}
 use Rattle.rules.specs.Limits.{flight, sizeOf, maxRepeats, expiryMs, storeWords, accepted, shortStore, outOfRange}
 use Rattle.rules.specs.Payload.{Bytes}
-use Rattle.rules.specs.Messages.{Station, sameStation, Item, count, itemOf}
+use Rattle.rules.specs.Messages.{Station, sameStation, Item, itemOf}
 use Rattle.rules.specs.Model.{Run, Upload, idle, running, Model, planOf, uploadOf, lengthOf, elapsed, expected, isLast, verdictOn, whole, wholeFault, isOthers, isOwn}
 use Rattle.rules.specs.Calls.{Call, message, timer, done, storeLent, Request, chooses, asksList, announces, changes, clears, acknowledges, asksItem, brings, Heard, refuses, heard}
 use Rattle.rules.specs.NextCommand.{stuck}

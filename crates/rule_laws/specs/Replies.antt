@@ -7,7 +7,7 @@ use mathlib.Core.Bool.{Bool, true, false, not, cond, _&&_}
 use lib.ListN.{length, getD}
 use lib.Dec.{eqb, leb, ltb}
 use borrow.Author.Tests.{leb-true, ltb-true, not-false}
-use Rattle.rules.specs.Limits.{flight, fence, rally, sizeOf, halfShort, storeWords, maxJumps, maxRepeats, expiryMs, byteValues, clockValues, xLimit, yLimit, accepted, noSpace, invalid, invalidSequence, denied, cancelled, unsupported}
+use Rattle.rules.specs.Limits.{flight, fence, rally, sizeOf, halfShort, storeWords, maxJumps, maxRepeats, expiryMs, byteValues, clockValues, xLimit, yLimit, accepted, noSpace, invalidSequence, denied, cancelled, unsupported}
 use Rattle.rules.specs.Payload.{Bytes}
 use Rattle.rules.specs.Messages.{Station, station, sameStation, Item, current, count, ack, itemOf}
 use Rattle.rules.specs.Values.{signed, within, float, finite}

@@ -18,7 +18,7 @@ use Rattle.rule_laws.specs.Kinds.{covered-known}
 use Rattle.rule_laws.specs.Tasks.{TaskRanges, RunRanges, run-ranges}
 use Rattle.call_lists.specs.Laws.Ranged.{InTurn, Formed, fresh-formed, formed-ranged, upload-formed, plan-formed, empty-formed, choose-formed}
 use Rattle.call_lists.specs.Laws.Search.{advance-formed}
-use Rattle.call_lists.specs.Laws.Whole.{whole-length}
+use Rattle.rule_laws.specs.Whole.{whole-length}
 
 -- what the range test says of a task (`TaskRanges`) is all that it asks
 ranges-task : (len : ℕ) (t : Task) (next : ℕ) → TaskRanges len t next → taskInRange len t next ≡ true

@@ -3,13 +3,13 @@ use Prim.Native.Nat.{ℕ}
 use mathlib.Core.Path.{refl}
 use mathlib.Core.List.{List, [], _∷_, _++_, map}
 use mathlib.Core.Bool.{Bool, true, false}
-use lib.ListN.{replicate, set}
+use lib.ListN.{replicate}
 use Rattle.rules.specs.Limits.{flight, fence, rally}
 use Rattle.rules.specs.Layouts.{partialListId}
 use Rattle.rules.specs.Messages.{Station, Item, partialList, count, ack, requestInt, itemInt, encode, decode, itemOf}
-use Rattle.rules.specs.Model.{Model, Upload, idle, running, Task, uploadOf}
+use Rattle.rules.specs.Model.{Model, idle, running, uploadOf}
 use Rattle.rules.specs.Calls.{Call, message}
-use Rattle.rules.specs.Step.{Answer, refused, silent, says, run, answers}
+use Rattle.rules.specs.Step.{Answer, refused, says, run, answers}
 use Rattle.rules.specs.Cases.{computing, Case, bytes, answer, replies, shown, upload, model, reads, _is_, Hold, vehicle, tablet, neighbour, sends, sendsCount, sendsItem, sendsAck, sendsClear, asksForList, asksForItem, ticks, after, f1, f3, f4, fMinusOne, itemAs, waypoint, land, jumpTo, vertex, circle, planWith, resting, verdict}
 use Rattle.rules.specs.Cases.Bounds.{bounds-hold}
 

@@ -5,7 +5,7 @@ use Prim.Native.Nat.{ℕ, _≤_, _-_, _+_}
 use native.Mathlib.Omega.{arith}
 use native.Mathlib.Numerals.{add-one}
 use borrow.Author.Needs.{needs}
-use lib.ListN.{set, take, drop, length, getD, length-drop}
+use lib.ListN.{set, drop, length, getD, length-drop}
 use lib.Seq.{paste, paste-zero, paste-suc, length-paste, take-paste, take-all, getD-drop}
 use Rattle.rules.specs.Limits.{itemWords}
 use Rattle.places.specs.Part.{part}

@@ -1,11 +1,9 @@
 -- By the result for the whole, over the store as it is settled.
-use mathlib.Core.Path.{_≡_, _∙_, sym, ap}
-use mathlib.Core.Bool.{true, false, not}
-use Prim.Native.Nat.{ℕ, _≤_}
-use native.Mathlib.Omega.{arith}
-use lib.ListN.{length}
+use mathlib.Core.Path.{_≡_, _∙_, ap}
+use mathlib.Core.Bool.{not}
+use Prim.Native.Nat.{ℕ}
 use borrow.Author.Tests.{eq-eqb, ne-eqb}
-use Rattle.rules.specs.Limits.{rally, sizeOf, storeWords, accepted}
+use Rattle.rules.specs.Limits.{accepted}
 use Rattle.rules.specs.Model.{wholeFault}
 use Rattle.plan.specs.declared.Plan.{Plan}
 use Rattle.plan.specs.declared.Run.{Run}
@@ -14,7 +12,6 @@ use Rattle.places.specs.Forms.{Store, words, itemsIn}
 use Rattle.upload.specs.declared.Say.the-variants.{Ack}
 use Rattle.upload.specs.declared.Turned.{Turned}
 use Rattle.upload.specs.Turns.{ended, replaced, moves, putsIn, turnWith, settled, lastTurned}
-use Rattle.taking.specs.Judging.{InRange}
 use borrow.Author.Needs.{needs}
 use Rattle.taking.proofs.last_turn.Statement.{statement}
 use Rattle.taking.proofs.last_turn.Tie as tie

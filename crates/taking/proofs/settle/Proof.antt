@@ -1,5 +1,5 @@
 -- The two runs of items are those of `filled`: what is before the part's first number, and what is behind its last.
-use mathlib.Core.Path.{_≡_, refl, _∙_, ap}
+use mathlib.Core.Path.{_≡_, _∙_, ap}
 use mathlib.Core.Bool.{true, false}
 use Prim.Native.Nat.{ℕ, _+_, _-_, _≤_}
 use native.Mathlib.Omega.{arith}
@@ -7,7 +7,6 @@ use lib.ListN.{length}
 use Rattle.rules.specs.Limits.{rally, sizeOf, storeWords}
 use Rattle.plan.specs.declared.Plan.{Plan}
 use Rattle.plan.specs.declared.Run.{Run}
-use Rattle.plan.specs.View.{taskIn}
 use Rattle.places.specs.Forms.{Store, words}
 use Rattle.places.specs.Places.{words-lawful}
 use Rattle.places.specs.Carried.{carried, filled, carried-leaves}
