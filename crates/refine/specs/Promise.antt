@@ -2,15 +2,15 @@
 -- store of a form.
 use Prim.Native.Nat.{ℕ, _+_, _≤_}
 use mathlib.Core.Path.{_≡_}
-use mathlib.Core.List.{_++_}
+use mathlib.Core.List.{[], _++_}
 use mathlib.Core.Bool.{Bool, true, false, not, cond, _&&_}
 use lib.ListN.{length, getD, take, drop}
 use lib.Dec.{eqb, leb, ltb}
-use Rattle.rules.specs.Limits.{rally, storeWords}
+use Rattle.rules.specs.Limits.{rally, storeWords, accepted}
 use Rattle.rules.specs.Payload.{Bytes}
-use Rattle.rules.specs.Messages.{Station, sameStation}
+use Rattle.rules.specs.Messages.{Station, sameStation, Item}
 use Rattle.rules.specs.Model as model
-use Rattle.rules.specs.Model.{Model}
+use Rattle.rules.specs.Model.{Model, verdictOn}
 use Rattle.rules.specs.NextCommand.{Command}
 use Rattle.rules.specs.Calls.{Call, storeLent, chooses, asksList, announces, changes, clears, acknowledges, asksItem, brings, Heard, refuses, request, expiry, commandDone, isKnown, heard}
 use Rattle.rules.specs.Step.{isRefused, outcomeOf, replyId, replyBytes, commandIn, ReadsBack, step}
@@ -20,7 +20,7 @@ use Rattle.plan.specs.declared.Run.{Run}
 use Rattle.plan.specs.declared.Upload.{Upload}
 use Rattle.plan.specs.declared.Upload.the-variants.{Idle, Running}
 use Rattle.places.specs.Forms.{Store, Form, least, offsetOf}
-use Rattle.plan.specs.View.{planOf, stationIn}
+use Rattle.plan.specs.View.{planOf, stationIn, taskIn}
 
 -- what a call returns: the new state, the outcome, the reply's id and length, and the command of a "command done" call (Stuck for any other call)
 pub record Result (State : Type 0) : Type 0 where
@@ -75,22 +75,22 @@ module _ (F : Form) where
   abbrev pub inPlaces : (half : Bool) (kind low high i : ℕ) → Bool
   inPlaces half kind low high i = leb (offsetOf F half kind low) i && ltb i (offsetOf F half kind high)
 
-  -- the item which an upload expects next is the last of a part: the plan's other items are put beside it
-  abbrev pub fillsUp : Run → Bool
-  fillsUp r = r .partial && eqb (r .next) (r .last)
+  -- An item, as the one which an upload of a kind expects next, is the last of a part, and valid: the plan's other items are put beside it. (No item of a part is judged by those
+  -- taken before it.)
+  abbrev pub fillsUp : (kind : ℕ) → Run → Item → Bool
+  fillsUp kind r item = r .partial && eqb (r .next) (r .last) && eqb (verdictOn kind (taskIn r) (r .next) [] item) accepted
 
-  -- An item of a kind, with number seq and from a station, may change one place: that of the item which the kind's upload expects next, in the half that the
-  -- plan is not in; where it is the last of a part, the places there of all items that the plan is to have; and only where the upload is the station's own and
-  -- seq the number that it expects.
-  unfoldable pub spareIn : Plan → (kind : ℕ) → Upload → Station → (seq i : ℕ) → Bool
-  spareIn p kind Idle from seq i = false
-  spareIn p kind (Running r) from seq i =
-      sameStation from (stationIn r) && eqb seq (r .next)
-      && inPlaces (not (p .half)) kind (cond (fillsUp r) 0 (r .next)) (cond (fillsUp r) (r .count) (r .next + 1)) i
+  -- An item of a kind, from a station, may change one place: that of the item which the kind's upload expects next, in the half that the plan is not in; where it is the last of a
+  -- part, and valid, the places there of all items that the plan is to have; and only where the upload is the station's own and the item has the number that it expects.
+  unfoldable pub spareIn : Plan → (kind : ℕ) → Upload → Station → Item → (i : ℕ) → Bool
+  spareIn p kind Idle from item i = false
+  spareIn p kind (Running r) from item i =
+      sameStation from (stationIn r) && eqb (item .seq) (r .next)
+      && inPlaces (not (p .half)) kind (cond (fillsUp kind r item) 0 (r .next)) (cond (fillsUp kind r item) (r .count) (r .next + 1)) i
 
   -- no other call changes anything in the store
   unfoldable pub spareAt : State → Heard → ℕ → Bool
-  spareAt st (request from now kind (brings item)) i = isKnown kind && spareIn (planOf st kind) kind (planOf st kind .upload) from (item .seq) i
+  spareAt st (request from now kind (brings item)) i = isKnown kind && spareIn (planOf st kind) kind (planOf st kind .upload) from item i
   spareAt st (request from now kind (chooses seq)) i = false
   spareAt st (request from now kind asksList) i = false
   spareAt st (request from now kind (announces n)) i = false

@@ -10,7 +10,7 @@ use borrow.Author.Tests.{le-leb, eq-eqb, ne-eqb, eqb-true, not-true, not-false}
 use Rattle.rules.specs.Limits.{flight, rally, kinds, everyKind, sizeOf, accepted, maxRepeats, expiryMs, lastNumber}
 use Rattle.rules.specs.Messages.{Station, Item, sameStation}
 use Rattle.rules.specs.Model as model
-use Rattle.rules.specs.Model.{Model, wholeTask, partTask, nextNumber, elapsed, wholeFault, every, inRange}
+use Rattle.rules.specs.Model.{Model, wholeTask, partTask, nextNumber, elapsed, verdictOn, wholeFault, every, inRange}
 use Rattle.rules.specs.Calls.{Call, Request, chooses, asksList, announces, changes, clears, acknowledges, asksItem, brings, Heard, refuses, request, expiry, commandDone, isKnown, heard}
 use Rattle.rules.specs.NextCommand.{next, answerOf, advance}
 use Rattle.rules.specs.Step.{refused, orders, isRefused, Stepped, partOk, covered, kindOk, act, step}
@@ -206,51 +206,66 @@ module _ (F : Form) (lawful : Lawful F) where
       abbrev p : Plan
       p = planOf st k
 
-      own-beside : (s′ : Store) → Leaves F (not (p .half)) k (cond (fillsUp F r) 0 (r .next)) (cond (fillsUp F r) (r .count) (r .next + 1)) s s′ → Beside s (spareIn F p k (Running r) from (item .seq)) s′
+      own-beside : (s′ : Store) → Leaves F (not (p .half)) k (cond (fillsUp F k r item) 0 (r .next)) (cond (fillsUp F k r item) (r .count) (r .next + 1)) s s′ → Beside s (spareIn F p k (Running r) from item) s′
       unfolding spareIn
       own-beside s′ leaves =
-          let after = leaves-beside (cond (fillsUp F r) 0 (r .next)) (cond (fillsUp F r) (r .count) (r .next + 1)) s′ leaves in
+          let after = leaves-beside (cond (fillsUp F k r item) 0 (r .next)) (cond (fillsUp F k r item) (r .count) (r .next + 1)) s′ leaves in
           record { numbers = λ i e. after .numbers i (rw (own, turn) at e); long = after .long }
 
+      -- no item of a part is judged by those taken before it
+      part-verdict : r .partial ≡ true → verdictOn k (taskIn r) (r .next) [] item ≡ itemVerdict F s k p r item
+      unfolding verdictOn
+      part-verdict part = rw part
+
+      fills-not : eqb (r .next) (r .last) ≡ false → fillsUp F k r item ≡ false
+      fills-not e = rw (e, and-false)
+
+      fills : eqb (r .next) (r .last) ≡ true → eqb (itemVerdict F s k p r item) accepted ≡ true → r .partial ≡ true → fillsUp F k r item ≡ true
+      fills e valid part = rw (part-verdict part, valid, part, e)
+
+      fills-whole : r .partial ≡ false → fillsUp F k r item ≡ false
+      fills-whole all = rw all
+
       -- an item that is not the last
-      more-beside : eqb (r .next) (r .last) ≡ false → Beside s (spareIn F p k (Running r) from (item .seq)) (stored F s k p r item)
+      more-beside : eqb (r .next) (r .last) ≡ false → Beside s (spareIn F p k (Running r) from item) (stored F s k p r item)
       more-beside e =
           own-beside (stored F s k p r item)
           (subst (λ (b : Bool). Leaves F (not (p .half)) k (cond b 0 (r .next)) (cond b (r .count) (r .next + 1)) s (stored F s k p r item))
-          (sym (ap (λ (b : Bool). r .partial && b) e ∙ and-false (r .partial))) (written F lawful st s long ranged k known r runs item))
+          (sym (fills-not e)) (written F lawful st s long ranged k known r runs item))
 
-      -- the last
-      last-beside : eqb (r .next) (r .last) ≡ true → Beside s (spareIn F p k (Running r) from (item .seq)) (settled F (stored F s k p r item) k p r)
+      -- the last, and valid
+      last-beside : eqb (r .next) (r .last) ≡ true → eqb (itemVerdict F s k p r item) accepted ≡ true → Beside s (spareIn F p k (Running r) from item) (settled F (stored F s k p r item) k p r)
       unfolding settled
-      last-beside e = own-beside (settled F (stored F s k p r item) k p r) (go (r .partial) refl)
+      last-beside e valid = own-beside (settled F (stored F s k p r item) k p r) (go (r .partial) refl)
         where
           go : (b : Bool) → r .partial ≡ b
-              → Leaves F (not (p .half)) k (cond (fillsUp F r) 0 (r .next)) (cond (fillsUp F r) (r .count) (r .next + 1)) s (settled F (stored F s k p r item) k p r)
+              → Leaves F (not (p .half)) k (cond (fillsUp F k r item) 0 (r .next)) (cond (fillsUp F k r item) (r .count) (r .next + 1)) s (settled F (stored F s k p r item) k p r)
           go true part =
               subst (λ (b : Bool). Leaves F (not (p .half)) k (cond b 0 (r .next)) (cond b (r .count) (r .next + 1)) s (settled F (stored F s k p r item) k p r))
-              (sym (ap₂ _&&_ part e)) (settled-leaves F lawful st s long ranged k known r runs item)
+              (sym (fills e valid part)) (settled-leaves F lawful st s long ranged k known r runs item)
           go false all =
-              subst (λ (b : Bool). Leaves F (not (p .half)) k (cond b 0 (r .next)) (cond b (r .count) (r .next + 1)) s (settled F (stored F s k p r item) k p r)) (sym (ap₂ _&&_ all e))
+              subst (λ (b : Bool). Leaves F (not (p .half)) k (cond b 0 (r .next)) (cond b (r .count) (r .next + 1)) s (settled F (stored F s k p r item) k p r)) (sym (fills-whole all))
               (subst (λ (b : Bool). Leaves F (not (p .half)) k (r .next) (r .next + 1) s (cond b (filled F (stored F s k p r item) (p .half) k (taskIn r)) (stored F s k p r item))) (sym all)
               (written F lawful st s long ranged k known r runs item))
 
     item-beside :
         (u : Upload) → planOf st k .upload ≡ u → (from : Station) (now : ℕ) (item : Item)
-        → Beside s (spareIn F (planOf st k) k u from (item .seq)) (itemTurned F s k u (planOf st k) from now item .store)
+        → Beside s (spareIn F (planOf st k) k u from item) (itemTurned F s k u (planOf st k) from now item .store)
     unfolding itemTurned validItemTurned
-    item-beside Idle e from now item = beside-same s (spareIn F (planOf st k) k Idle from (item .seq))
+    item-beside Idle e from now item = beside-same s (spareIn F (planOf st k) k Idle from item)
     item-beside (Running r) e from now item =
-        let free = spareIn F (planOf st k) k (Running r) from (item .seq) in
+        let free = spareIn F (planOf st k) k (Running r) from item in
         let p = planOf st k in
         either Left (not (sameStation from (stationIn r))) (λ t. beside-same s free)
         (λ own. either Left (not (eqb (item .seq) (r .next))) (λ t. beside-same s free)
         (λ turn. either Left (not (eqb (itemVerdict F s k p r item) accepted)) (λ t. beside-same s free)
-        (λ t. either Left (not (eqb (r .next) (r .last)))
+        (λ valid. either Left (not (eqb (r .next) (r .last)))
         (λ more. more-beside r from item e (not-false (sameStation from (stationIn r)) own) (not-false (eqb (item .seq) (r .next)) turn) (not-true (eqb (r .next) (r .last)) more))
-        (λ last. last-beside r from item e (not-false (sameStation from (stationIn r)) own) (not-false (eqb (item .seq) (r .next)) turn) (not-false (eqb (r .next) (r .last)) last)))))
+        (λ last. last-beside r from item e (not-false (sameStation from (stationIn r)) own) (not-false (eqb (item .seq) (r .next)) turn) (not-false (eqb (r .next) (r .last)) last)
+        (not-false (eqb (itemVerdict F s k p r item) accepted) valid)))))
       where
         Left : TurnAndStore → Type 0
-        Left t = Beside s (spareIn F (planOf st k) k (Running r) from (item .seq)) (t .store)
+        Left t = Beside s (spareIn F (planOf st k) k (Running r) from item) (t .store)
 
   -- ---- every message
 
