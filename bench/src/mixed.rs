@@ -114,15 +114,21 @@ impl Writer {
         self.made() < self.changing[kind]
     }
 
-    /// Starts an upload of full size of an idle kind whose plan may be replaced. While one runs, other stations are denied; in a quiet kind plans are emptied, short
-    /// ones are begun, and their stations begin again.
-    fn some_count(&mut self) {
+    /// A kind, and who starts an upload of it: in a quiet kind the station whose upload runs, else another one.
+    fn some_starter(&mut self) -> (usize, Station) {
         let kind = self.random.below(KINDS);
         let own = self.is_quiet(kind) || self.random.one_in(5_000);
         let sender = match self.expected(kind) {
             Some((station, _)) if own => station,
             _ => self.another_station(kind),
         };
+        (kind, sender)
+    }
+
+    /// Starts an upload of full size of an idle kind whose plan may be replaced. While one runs, other stations are denied; in a quiet kind plans are emptied, short
+    /// ones are begun, and their stations begin again.
+    fn some_count(&mut self) {
+        let (kind, sender) = self.some_starter();
         let size = usize::from(SIZES[kind]);
         let count = match self.random.below(10) {
             0..=9 if self.is_changing(kind) => size + 1 + self.random.below(400),
@@ -147,12 +153,7 @@ impl Writer {
     /// Starts a change of a few items of an idle kind's plan. While an upload runs, other stations are denied; in a quiet kind the station itself begins to change
     /// items, whole uploads then ending. Some ranges are not in the plan.
     fn some_change(&mut self) {
-        let kind = self.random.below(KINDS);
-        let own = self.is_quiet(kind) || self.random.one_in(5_000);
-        let sender = match self.expected(kind) {
-            Some((station, _)) if own => station,
-            _ => self.another_station(kind),
-        };
+        let (kind, sender) = self.some_starter();
         let length = usize::from(self.drone.plans[kind].length);
         let start = self.random.below(length.max(1));
         let end = (start + self.random.below(4)).min(length.max(1) - 1);
