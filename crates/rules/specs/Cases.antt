@@ -5,6 +5,7 @@ pub mod Guards
 pub mod Bounds
 pub mod Words
 pub mod Partial
+pub mod Home
 use Prim.Native.Nat.{ℕ}
 use mathlib.Core.Path.{_≡_, refl, _∙_}
 use mathlib.Core.List.{List, [], _∷_, map}
@@ -15,7 +16,7 @@ use Rattle.rules.specs.Limits.{storeWords, replyBytesMin, flight, fence}
 use Rattle.rules.specs.Payload.{Bytes, numberAt, bytesOf, significant, trim}
 use Rattle.rules.specs.Layouts.{setCurrentId, requestListId, countId, clearAllId, ackId, requestIntId, itemIntId, layoutOf, values, pack}
 use Rattle.rules.specs.Messages.{Station, station, Item, Message, setCurrent, requestList, count, clearAll, ack, requestInt, itemInt, encode, messageOf, decode, itemOf, itemIn}
-use Rattle.rules.specs.Model.{Model, Shown, Plan, Upload, idle, fresh, nextNumber, shownNumber, elapsed, verdictOn, whole, wholeFault, isOthers, isOwn, withPlan, put, emptied, empty, choose, taskInRange, uploadInRange, inRange}
+use Rattle.rules.specs.Model.{Model, Shown, Plan, Upload, idle, fresh, nextNumber, shownNumber, elapsed, verdictOn, whole, wholeFault, isOthers, isOwn, withPlan, put, emptied, empty, flown, choose, taskInRange, uploadInRange, inRange}
 use Rattle.rules.specs.NextCommand.{Command, commandOf, orOne, passedOver, runsAfter, meets, settle, search, next, reach, advance}
 use Rattle.rules.specs.Calls.{Call, message, timer, done, forUs, heardMessage, heard}
 use Rattle.rules.specs.Values.{signed, finite, atLeastZero, aboveZero, zeroTo, Whole, inWord, wholeOf, wholeFrom, wholeNumber}
@@ -25,7 +26,7 @@ use Rattle.rules.specs.Step.{Answer, says, commandIn, step, run, onCount
 
 -- what a proof by computation unfolds: the rules, whole
 unfoldable pub computing : Unit {0}
-unfolding numberAt bytesOf significant trim layoutOf values pack messageOf encode decode itemOf itemIn signed finite atLeastZero aboveZero zeroTo inWord wholeOf wholeFrom wholeNumber targetIn paramOk frameOk jumpsAmong placeFault faultIn faultAmong fault runWith readItem readItems returnPoints fenceOk nextNumber shownNumber elapsed verdictOn whole wholeFault isOthers isOwn withPlan put emptied empty choose taskInRange uploadInRange inRange commandOf orOne passedOver runsAfter meets settle search next reach advance forUs heardMessage heard onCount partOk onPartial onValidItem onItem onAck onClear onList onRequest onSetCurrent onKnown kindOk onMessage onTimer act step run answers ofBits
+unfolding numberAt bytesOf significant trim layoutOf values pack messageOf encode decode itemOf itemIn signed finite atLeastZero aboveZero zeroTo inWord wholeOf wholeFrom wholeNumber targetIn paramOk frameOk jumpsAmong placeFault faultIn faultAmong fault runWith readItem readItems returnPoints fenceOk nextNumber shownNumber elapsed verdictOn whole wholeFault isOthers isOwn withPlan put emptied empty flown choose taskInRange uploadInRange inRange commandOf orOne passedOver runsAfter meets settle search next reach advance forUs heardMessage heard onCount partOk onPartial onValidItem onItem onAck onClear onList onRequest onSetCurrent onKnown kindOk onMessage onTimer act step run answers ofBits
 computing = tt
 
 pub data Value : Type 0 where
@@ -66,12 +67,12 @@ handed-is (a ∷ rest) on = handed-is rest (λ l. on (a ∷ l))
 
 -- a model likewise
 abbrev handedModel : {B : Type 0} → Model → (Model → B) → B
-handedModel m on = handed (m .uploads) (λ (us : List Upload). handed (m .shown .plans) (λ (ps : List Plan). on (record { shown = record { plans = ps; current = m .shown .current; begun = m .shown .begun; counts = m .shown .counts }; uploads = us })))
+handedModel m on = handed (m .uploads) (λ (us : List Upload). handed (m .shown .plans) (λ (ps : List Plan). on (record { shown = record { plans = ps; current = m .shown .current; begun = m .shown .begun; counts = m .shown .counts; home = m .shown .home }; uploads = us })))
 
 handedModel-is : {B : Type 0} (m : Model) (on : Model → B) → handedModel m on ≡ on m
 handedModel-is m on =
-    handed-is (m .uploads) (λ (us : List Upload). handed (m .shown .plans) (λ (ps : List Plan). on (record { shown = record { plans = ps; current = m .shown .current; begun = m .shown .begun; counts = m .shown .counts }; uploads = us })))
-    ∙ handed-is (m .shown .plans) (λ (ps : List Plan). on (record { shown = record { plans = ps; current = m .shown .current; begun = m .shown .begun; counts = m .shown .counts }; uploads = m .uploads }))
+    handed-is (m .uploads) (λ (us : List Upload). handed (m .shown .plans) (λ (ps : List Plan). on (record { shown = record { plans = ps; current = m .shown .current; begun = m .shown .begun; counts = m .shown .counts; home = m .shown .home }; uploads = us })))
+    ∙ handed-is (m .shown .plans) (λ (ps : List Plan). on (record { shown = record { plans = ps; current = m .shown .current; begun = m .shown .begun; counts = m .shown .counts; home = m .shown .home }; uploads = m .uploads }))
 
 -- ---- stations and calls: the vehicle is 1/1
 
@@ -198,22 +199,22 @@ circle seq = itemAs fence 5003 seq f1 0 0
 abbrev pub planWith : List Item → ℕ → Plan
 planWith items n = record { items = map itemOf items; number = n }
 
--- what is shown with these plans; nothing begun
+-- what is shown with these plans, without the setting; nothing begun
 abbrev pub plansOf : Plan → Plan → Plan → Shown
-plansOf a b c = record { plans = a ∷ b ∷ c ∷ []; current = 0; begun = false; counts = replicate 15 0 }
+plansOf a b c = record { plans = a ∷ b ∷ c ∷ []; current = 0; begun = false; counts = replicate 15 0; home = false }
 
 -- no upload runs
 abbrev pub resting : Shown → Model
 resting s = record { shown = s; uploads = idle ∷ idle ∷ idle ∷ [] }
 
--- the fresh model, but for the flight plan and its number
+-- the fresh model without the setting, but for the flight plan and its number
 abbrev pub withFlight : List Item → ℕ → Model
 withFlight items n = resting (plansOf (planWith items n) (planWith [] 0) (planWith [] 0))
 
 -- two waypoints are stored, the first is begun, and one jump count is not 0
 abbrev pub flying : Model
 flying =
-    resting (record { plans = planWith (waypoint 0 ∷ waypoint 1 ∷ []) 3 ∷ planWith [] 0 ∷ planWith [] 0 ∷ []; current = 0; begun = true; counts = 9 ∷ replicate 14 0 })
+    resting (record { plans = planWith (waypoint 0 ∷ waypoint 1 ∷ []) 3 ∷ planWith [] 0 ∷ planWith [] 0 ∷ []; current = 0; begun = true; counts = 9 ∷ replicate 14 0; home = false })
 
 -- ---- uploads and their answers
 
@@ -221,9 +222,9 @@ flying =
 abbrev pub uploads : (kind n : ℕ) → List Item → List Call
 uploads kind n items = sendsCount tablet 0 kind n ∷ map (λ (i : Item). sendsItem tablet 0 i) items
 
--- the tablet announces one item of a kind: the answer to it
+-- the tablet announces one item of a kind, without the setting: the answer to it
 abbrev pub judges : (kind : ℕ) → Item → Answer
-judges kind item = after fresh (uploads kind 1 []) (sendsItem tablet 0 item)
+judges kind item = after (fresh false) (uploads kind 1 []) (sendsItem tablet 0 item)
 
 abbrev pub verdict : (result kind : ℕ) → Answer
 verdict result kind = says (ack tablet result kind 0)

@@ -50,7 +50,7 @@ servo channel pulse = itemAs flight 183 0 channel pulse 0
 
 -- the results for a jump back from item 1, with each of some repeats
 abbrev repeatResults : List ℕ → List ℕ
-repeatResults repeats = map (λ (r : ℕ). resultOf (after fresh (uploads flight 2 (waypoint 0 ∷ [])) (sendsItem tablet 0 (jumpTo 1 0 r)))) repeats
+repeatResults repeats = map (λ (r : ℕ). resultOf (after (fresh false) (uploads flight 2 (waypoint 0 ∷ [])) (sendsItem tablet 0 (jumpTo 1 0 r)))) repeats
 
 -- ---- params as whole numbers
 
@@ -78,14 +78,14 @@ lengths a b c = resting (plansOf (planOfLength a) (planOfLength b) (planOfLength
 abbrev uploading : (kind count taken repeats : ℕ) → Model
 uploading kind n taken repeats =
     record {
-      shown = fresh .shown;
+      shown = fresh false .shown;
       uploads = set (idle ∷ idle ∷ idle ∷ []) kind (running (record { station = tablet; task = wholeTask n; next = taken; taken = replicate taken []; started = 0; repeats = repeats }));
     }
 
 -- a flight plan of this length, at an item, with its first and its last jump count
 abbrev atItem : (length current first last : ℕ) → Model
 atItem n current first last =
-    resting (record { plans = planOfLength n ∷ planOfLength 0 ∷ planOfLength 0 ∷ []; current = current; begun = false; counts = first ∷ replicate 13 0 ++ (last ∷ []) })
+    resting (record { plans = planOfLength n ∷ planOfLength 0 ∷ planOfLength 0 ∷ []; current = current; begun = false; counts = first ∷ replicate 13 0 ++ (last ∷ []); home = false })
 
 -- what a REQUEST_LIST of flight gets
 abbrev listed : Model → Answer
@@ -121,8 +121,8 @@ bounds =
     -- vertices 2, 3, 64, 65 and 3.5: a valid one alone is 5, since its run is short; with more to come the next is requested
     ∷ (numbers (results fence (byParam1 fence 5001) (f2 ∷ f3 ∷ 0x42800000 ∷ 0x42820000 ∷ 0x40600000 ∷ [])) is numbers (6 ∷ 5 ∷ 5 ∷ 6 ∷ 6 ∷ []))
     ∷ (numbers (results fence (byParam1 fence 5002) (f2 ∷ f3 ∷ 0x42800000 ∷ 0x42820000 ∷ 0x40600000 ∷ [])) is numbers (6 ∷ 5 ∷ 5 ∷ 6 ∷ 6 ∷ []))
-    ∷ (answer (after fresh (uploads fence 64 []) (sendsItem tablet 0 (vertex 0 0x42800000))) is answer (says (requestInt tablet 1 1)))
-    ∷ (answer (after fresh (uploads fence 64 []) (sendsItem tablet 0 (vertex 0 0x42820000))) is answer (says (ack tablet 6 1 0)))
+    ∷ (answer (after (fresh false) (uploads fence 64 []) (sendsItem tablet 0 (vertex 0 0x42800000))) is answer (says (requestInt tablet 1 1)))
+    ∷ (answer (after (fresh false) (uploads fence 64 []) (sendsItem tablet 0 (vertex 0 0x42820000))) is answer (says (ack tablet 6 1 0)))
     -- circles: 0, the first above it, infinity
     ∷ (numbers (results fence (byParam1 fence 5003) (0 ∷ 1 ∷ 0x7f800000 ∷ [])) is numbers (6 ∷ 0 ∷ 6 ∷ []))
     ∷ (numbers (results fence (byParam1 fence 5004) (0 ∷ 1 ∷ 0x7f800000 ∷ [])) is numbers (6 ∷ 0 ∷ 6 ∷ []))
@@ -144,7 +144,7 @@ bounds =
     ∷ (answer (judges flight (itemWith flight 21 0 3 0 0 900000001 1800000001 fNaN)) is answer (says (ack tablet 10 0 0)))
     -- the upload completes, and the item comes back as it was sent
     ∷ (answer (judges flight (home 2 900000001 1800000001 fNaN)) is answer (says (ack tablet 0 0 1)))
-    ∷ (answer (after fresh (uploads flight 1 (home 2 900000001 1800000001 fNaN ∷ [])) (asksForItem tablet flight 0)) is answer (says (itemInt tablet 1 (home 2 900000001 1800000001 fNaN))))
+    ∷ (answer (after (fresh false) (uploads flight 1 (home 2 900000001 1800000001 fNaN ∷ [])) (asksForItem tablet flight 0)) is answer (says (itemInt tablet 1 (home 2 900000001 1800000001 fNaN))))
     -- its answer stays Fly; land in frame 2, which a host wrote, is Stuck
     ∷ (commands (ordered (withFlight (home 2 900000001 1800000001 fNaN ∷ []) 1) (finishes ∷ finishes ∷ [])) is commands (fly 0 ∷ finished ∷ []))
     ∷ (commands (ordered (withFlight (framed 21 2 ∷ []) 1) (finishes ∷ [])) is commands (stuck ∷ []))
@@ -175,8 +175,8 @@ bounds =
     ∷ (numbers (run (withFlight (looping fNaN) 1) (replicate 2 finishes) .shown .counts) is numbers (1 ∷ replicate 14 0))
     ∷ (numbers (run (withFlight (looping fNaN) 1) (replicate 4 finishes) .shown .counts) is numbers (1 ∷ replicate 14 0))
     -- an upload with it completes, and the item comes back as it was sent; an infinity as a repeat, which a host wrote, is Stuck
-    ∷ (answer (after fresh (uploads flight 3 (waypoint 0 ∷ jumpTo 1 0 0xff800001 ∷ [])) (sendsItem tablet 0 (waypoint 2))) is answer (says (ack tablet 0 0 1)))
-    ∷ (answer (after fresh (uploads flight 3 (looping 0xff800001)) (asksForItem tablet flight 1)) is answer (says (itemInt tablet 0 (jumpTo 1 0 0xff800001))))
+    ∷ (answer (after (fresh false) (uploads flight 3 (waypoint 0 ∷ jumpTo 1 0 0xff800001 ∷ [])) (sendsItem tablet 0 (waypoint 2))) is answer (says (ack tablet 0 0 1)))
+    ∷ (answer (after (fresh false) (uploads flight 3 (looping 0xff800001)) (asksForItem tablet flight 1)) is answer (says (itemInt tablet 0 (jumpTo 1 0 0xff800001))))
     ∷ (commands (ordered (withFlight (looping 0x7f800000) 1) (replicate 2 finishes)) is commands (fly 0 ∷ stuck ∷ []))
     -- outcome 15: a plan's length
     ∷ (answer (listed (lengths 256 64 32)) is answer (says (count tablet 256 0 1)))

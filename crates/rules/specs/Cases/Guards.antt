@@ -49,6 +49,7 @@ loaded =
       current = 1;
       begun = true;
       counts = 9 ∷ 8 ∷ replicate 13 0;
+      home = false;
     }
 
 -- the tablet uploads three items of fence, and the first is taken
@@ -64,7 +65,7 @@ camera = station 255 191
 
 -- REQUEST_LIST of flight to a system and a component, on a vehicle with these own numbers
 abbrev hears : (own : Station) (system component : ℕ) → Answer
-hears own system component = after fresh [] (message own tablet requestListId (system ∷ component ∷ []) 0 storeWords replyBytesMin)
+hears own system component = after (fresh false) [] (message own tablet requestListId (system ∷ component ∷ []) 0 storeWords replyBytesMin)
 
 -- jumps that are passed over, to item `target`
 abbrev passed : (n target : ℕ) → List Item
@@ -73,7 +74,7 @@ passed n target = replicate n (jumpTo 0 target 0)
 abbrev pub guards : List Case
 guards =
     -- the refusal's text and severity: the payload, and the message with its 50 characters
-    (bytes (replyBytes (after fresh [] (setsCurrent tablet 0)))
+    (bytes (replyBytes (after (fresh false) [] (setsCurrent tablet 0)))
     is bytes (0x04 ∷ 0x6e ∷ 0x6f ∷ 0x20 ∷ 0x73 ∷ 0x75 ∷ 0x63 ∷ 0x68 ∷ 0x20 ∷ 0x6d ∷ 0x69 ∷ 0x73 ∷ 0x73 ∷ 0x69 ∷ 0x6f ∷ 0x6e ∷ 0x20 ∷ 0x69 ∷ 0x74 ∷ 0x65 ∷ 0x6d ∷ []))
     ∷ (answer (after flying [] (setsCurrent tablet 2)) is answer (says (statustext 4 text 0 0)))
     -- CURRENT has the number of each kind's plan in its own place, and 0 for an empty plan
@@ -115,6 +116,7 @@ guards =
             current = 0;
             begun = false;
             counts = noRuns;
+            home = false;
           };
       uploads = idle ∷ idle ∷ idle ∷ [];
     }))
@@ -126,6 +128,7 @@ guards =
       current = 1;
       begun = false;
       counts = 9 ∷ replicate 14 0;
+      home = false;
     }))
     ∷ (shown (run flying (setsCurrent tablet 1 ∷ finishes ∷ uploads flight 1 (waypoint 0 ∷ [])) .shown)
     is shown
@@ -134,16 +137,17 @@ guards =
       current = 0;
       begun = false;
       counts = noRuns;
+      home = false;
     }))
     -- a run whose command changes, whose param 1 changes or that another item parts is 5; the old fence stands
-    ∷ (answer (after fresh (uploads fence 3 (vertex 0 f3 ∷ vertex 1 f3 ∷ [])) (sendsItem tablet 0 (itemAs fence 5002 2 f3 0 0))) is answer (verdict 5 1))
-    ∷ (answer (after fresh (uploads fence 3 (vertex 0 f3 ∷ vertex 1 f3 ∷ [])) (sendsItem tablet 0 (vertex 2 f4))) is answer (verdict 5 1))
-    ∷ (answer (after fresh (uploads fence 4 (vertex 0 f3 ∷ vertex 1 f3 ∷ circle 2 ∷ [])) (sendsItem tablet 0 (vertex 3 f3))) is answer (verdict 5 1))
-    ∷ (answer (after fresh (uploads fence 3 (vertex 0 f3 ∷ vertex 1 f3 ∷ [])) (sendsItem tablet 0 (vertex 2 f3))) is answer (says (ack tablet 0 1 1)))
+    ∷ (answer (after (fresh false) (uploads fence 3 (vertex 0 f3 ∷ vertex 1 f3 ∷ [])) (sendsItem tablet 0 (itemAs fence 5002 2 f3 0 0))) is answer (verdict 5 1))
+    ∷ (answer (after (fresh false) (uploads fence 3 (vertex 0 f3 ∷ vertex 1 f3 ∷ [])) (sendsItem tablet 0 (vertex 2 f4))) is answer (verdict 5 1))
+    ∷ (answer (after (fresh false) (uploads fence 4 (vertex 0 f3 ∷ vertex 1 f3 ∷ circle 2 ∷ [])) (sendsItem tablet 0 (vertex 3 f3))) is answer (verdict 5 1))
+    ∷ (answer (after (fresh false) (uploads fence 3 (vertex 0 f3 ∷ vertex 1 f3 ∷ [])) (sendsItem tablet 0 (vertex 2 f3))) is answer (says (ack tablet 0 1 1)))
     ∷ (answer (after (replacing 100 0) (sendsItem tablet 0 (vertex 1 f3) ∷ sendsItem tablet 0 (vertex 2 f3) ∷ []) (asksForList tablet fence)) is answer (says (count tablet 1 1 16909060)))
     -- one return point is valid, two are 5
     ∷ (answer (judges fence (returnPoint 0)) is answer (says (ack tablet 0 1 1)))
-    ∷ (answer (after fresh (uploads fence 2 (returnPoint 0 ∷ [])) (sendsItem tablet 0 (returnPoint 1))) is answer (verdict 5 1))
+    ∷ (answer (after (fresh false) (uploads fence 2 (returnPoint 0 ∷ [])) (sendsItem tablet 0 (returnPoint 1))) is answer (verdict 5 1))
     -- Wait 2.5 seconds, Near 10 metres, Turn by 90 degrees, Speed 7.5 and -1.5, Servo 5 at 1500
     ∷ (commands
     (ordered

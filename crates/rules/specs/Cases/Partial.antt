@@ -18,7 +18,7 @@ use Rattle.rules.specs.Cases.Bounds.{bounds-hold}
 -- these flight and fence items are stored, with numbers 3 and 7; item 1 is begun, and one jump count is not 0
 abbrev stored : List Item → List Item → Model
 stored flightItems fenceItems =
-    resting (record { plans = planWith flightItems 3 ∷ planWith fenceItems 7 ∷ planWith [] 0 ∷ []; current = 1; begun = true; counts = 9 ∷ replicate 14 0 })
+    resting (record { plans = planWith flightItems 3 ∷ planWith fenceItems 7 ∷ planWith [] 0 ∷ []; current = 1; begun = true; counts = 9 ∷ replicate 14 0; home = false })
 
 abbrev triangle : List Item
 triangle = vertex 0 f3 ∷ vertex 1 f3 ∷ vertex 2 f3 ∷ []
@@ -70,13 +70,13 @@ partials =
     ∷ (model (run flying (parts flight 1 1 (land 1 ∷ [])))
     is model
     (resting
-    (record { plans = planWith (waypoint 0 ∷ land 1 ∷ waypoint 2 ∷ []) 4 ∷ planWith triangle 7 ∷ planWith [] 0 ∷ []; current = 1; begun = true; counts = replicate 15 0 })))
+    (record { plans = planWith (waypoint 0 ∷ land 1 ∷ waypoint 2 ∷ []) 4 ∷ planWith triangle 7 ∷ planWith [] 0 ∷ []; current = 1; begun = true; counts = replicate 15 0; home = false })))
     -- all items sent as a part are a part: current item and begun stay
     ∷ (shown (run flying (parts flight 0 2 (land 0 ∷ jumpTo 1 0 0 ∷ land 2 ∷ [])) .shown)
-    is shown (record { plans = planWith (land 0 ∷ jumpTo 1 0 0 ∷ land 2 ∷ []) 4 ∷ planWith triangle 7 ∷ planWith [] 0 ∷ []; current = 1; begun = true; counts = replicate 15 0 }))
+    is shown (record { plans = planWith (land 0 ∷ jumpTo 1 0 0 ∷ land 2 ∷ []) 4 ∷ planWith triangle 7 ∷ planWith [] 0 ∷ []; current = 1; begun = true; counts = replicate 15 0; home = false }))
     -- a part of another kind leaves the counts, and gives a new number too
     ∷ (shown (run flying (parts fence 0 2 triangle) .shown)
-    is shown (record { plans = planWith (waypoint 0 ∷ waypoint 1 ∷ waypoint 2 ∷ []) 3 ∷ planWith triangle 8 ∷ planWith [] 0 ∷ []; current = 1; begun = true; counts = 9 ∷ replicate 14 0 }))
+    is shown (record { plans = planWith (waypoint 0 ∷ waypoint 1 ∷ waypoint 2 ∷ []) 3 ∷ planWith triangle 8 ∷ planWith [] 0 ∷ []; current = 1; begun = true; counts = 9 ∷ replicate 14 0; home = false }))
     -- until the last item the old plan is shown
     ∷ (shown (run flying (parts flight 0 1 (land 0 ∷ [])) .shown) is shown (flying .shown))
     ∷ (answer (after flying (parts flight 0 1 (land 0 ∷ [])) (asksForItem tablet flight 0)) is answer (says (itemInt tablet 0 (waypoint 0))))

@@ -30,13 +30,13 @@ fencing = fencingAt 120 0
 
 -- a number of the state is out of its range: one jump count
 abbrev unranged : Model
-unranged = record { shown = record { plans = flying .shown .plans; current = 0; begun = true; counts = 32768 ∷ [] }; uploads = flying .uploads }
+unranged = record { shown = record { plans = flying .shown .plans; current = 0; begun = true; counts = 32768 ∷ []; home = false }; uploads = flying .uploads }
 
 -- the tablet uploads 17 flight items, and the fifteen taken are jumps
 abbrev jumping : Model
 jumping =
     record {
-      shown = fresh .shown;
+      shown = fresh false .shown;
       uploads = running (record { station = tablet; task = wholeTask 17; next = 15; taken = replicate 15 (itemOf (jumpTo 1 0 0)); started = 0; repeats = 0 }) ∷ idle ∷ idle ∷ [];
     }
 
@@ -71,19 +71,19 @@ readings =
     -- the order of refusals: 14, 15, 10, 11, 12, 13
     ∷ (answer (after unranged [] (lent 5631 53 ackId [])) is answer (refused 14))
     ∷ (answer (after unranged [] (lent 5632 53 ackId [])) is answer (refused 15))
-    ∷ (answer (after fresh [] (lent 5632 53 ackId [])) is answer (refused 10))
-    ∷ (answer (after fresh [] (lent 5632 54 42 [])) is answer (refused 11))
-    ∷ (answer (after fresh [] (lent 5632 54 currentId (0 ∷ 0 ∷ 9 ∷ 9 ∷ []))) is answer (refused 12))
-    ∷ (answer (after fresh [] (lent 5632 54 statustextId (0 ∷ []))) is answer (refused 12))
-    ∷ (answer (after fresh [] (lent 5632 54 300 (0 ∷ []))) is answer (refused 12))
-    ∷ (answer (after fresh [] (timer 3 0 5632 53)) is answer (refused 10))
-    ∷ (answer (after fresh [] (timer 3 0 5632 54)) is answer (refused 12))
+    ∷ (answer (after (fresh false) [] (lent 5632 53 ackId [])) is answer (refused 10))
+    ∷ (answer (after (fresh false) [] (lent 5632 54 42 [])) is answer (refused 11))
+    ∷ (answer (after (fresh false) [] (lent 5632 54 currentId (0 ∷ 0 ∷ 9 ∷ 9 ∷ []))) is answer (refused 12))
+    ∷ (answer (after (fresh false) [] (lent 5632 54 statustextId (0 ∷ []))) is answer (refused 12))
+    ∷ (answer (after (fresh false) [] (lent 5632 54 300 (0 ∷ []))) is answer (refused 12))
+    ∷ (answer (after (fresh false) [] (timer 3 0 5632 53)) is answer (refused 10))
+    ∷ (answer (after (fresh false) [] (timer 3 0 5632 54)) is answer (refused 12))
     ∷ (answer (after unranged [] (done 5632)) is answer (refused 15))
     ∷ (answer (after unranged [] (done 5631)) is answer (refused 14))
     -- system and component are judged apart; missing target bytes are 0
-    ∷ (answer (after fresh [] (sends tablet 0 requestIntId (0 ∷ 0 ∷ 0 ∷ 9 ∷ []))) is answer (refused 13))
-    ∷ (answer (after fresh [] (sends tablet 0 requestIntId (0 ∷ 0 ∷ 9 ∷ []))) is answer (refused 13))
-    ∷ (answer (after fresh [] (sends tablet 0 requestIntId (5 ∷ []))) is answer (verdict 13 0))
+    ∷ (answer (after (fresh false) [] (sends tablet 0 requestIntId (0 ∷ 0 ∷ 0 ∷ 9 ∷ []))) is answer (refused 13))
+    ∷ (answer (after (fresh false) [] (sends tablet 0 requestIntId (0 ∷ 0 ∷ 9 ∷ []))) is answer (refused 13))
+    ∷ (answer (after (fresh false) [] (sends tablet 0 requestIntId (5 ∷ []))) is answer (verdict 13 0))
     -- the kind of a short payload is 0, whatever its last byte is: the neighbour's fence stays, the flight plan is emptied
     ∷ (answer (after flying (sendsCount neighbour 0 fence 1 ∷ []) (sends tablet 0 clearAllId (1 ∷ 1 ∷ []))) is answer (verdict 0 0))
     -- a refused COUNT, CLEAR_ALL or ACK ends nothing
@@ -147,7 +147,7 @@ readings =
     ∷ (answer (after fencing [] (sendsItem tablet 0 (vertex 1 f3))) is answer (verdict 5 1))
     -- minus zero is at least 0, is whole and is 0, and is not above 0; a subnormal is above 0; -2147483648 is outside
     ∷ (answer (judges flight (itemAs flight 16 0 fMinusZero 0 0)) is answer (says (ack tablet 0 0 1)))
-    ∷ (answer (after fresh (uploads flight 2 (waypoint 0 ∷ [])) (sendsItem tablet 0 (jumpTo 1 fMinusZero fMinusZero))) is answer (says (ack tablet 0 0 1)))
+    ∷ (answer (after (fresh false) (uploads flight 2 (waypoint 0 ∷ [])) (sendsItem tablet 0 (jumpTo 1 fMinusZero fMinusZero))) is answer (says (ack tablet 0 0 1)))
     ∷ (answer (judges fence (itemAs fence 5003 0 fMinusZero 0 0)) is answer (verdict 6 1))
     ∷ (answer (judges fence (itemAs fence 5003 0 1 0 0)) is answer (says (ack tablet 0 1 1)))
     ∷ (answer (judges flight (itemAs flight 16 0 0 0 0x80000000)) is answer (verdict 10 0))
@@ -172,18 +172,18 @@ readings =
     ∷ (answer (after flying (sendsCount tablet 0 fence 1 ∷ sendsItem tablet 0 (circle 0) ∷ []) (asksForItem tablet fence 0)) is answer (says (itemInt tablet 0 (circle 0))))
     -- SET_CURRENT on the current item makes it not begun and keeps the counts; on an empty plan it gets the text
     ∷ (shown (run flying (setsCurrent tablet 0 ∷ []) .shown)
-    is shown (record { plans = flying .shown .plans; current = 0; begun = false; counts = 9 ∷ replicate 14 0 }))
+    is shown (record { plans = flying .shown .plans; current = 0; begun = false; counts = 9 ∷ replicate 14 0; home = false }))
     ∷ (answer (after flying [] (setsCurrent tablet 1)) is answer (says (current 1 2 0 0 3 0 0)))
     ∷ (answer (after flying [] (setsCurrent tablet 2)) is answer (says refusalText))
-    ∷ (answer (after fresh [] (setsCurrent tablet 0)) is answer (says refusalText))
+    ∷ (answer (after (fresh false) [] (setsCurrent tablet 0)) is answer (says refusalText))
     -- Finished leaves everything as it was
     ∷ (shown (run flying (finishes ∷ finishes ∷ finishes ∷ []) .shown) is shown (run flying (finishes ∷ []) .shown))
     -- trimming keeps one byte
-    ∷ (bytes (replyBytes (after fresh [] (message vehicle (station 0 0) requestIntId (0 ∷ []) 0 storeWords replyBytesMin))) is bytes (0 ∷ 0 ∷ 13 ∷ []))
+    ∷ (bytes (replyBytes (after (fresh false) [] (message vehicle (station 0 0) requestIntId (0 ∷ []) 0 storeWords replyBytesMin))) is bytes (0 ∷ 0 ∷ 13 ∷ []))
     ∷ (bytes (trim (0 ∷ 0 ∷ [])) is bytes (0 ∷ []))
     -- an upload among other traffic takes effect at its last item, and not before
-    ∷ (upload (uploadOf (run fresh amongTraffic) fence) is upload idle)
-    ∷ (shown (run fresh amongTraffic .shown) is shown (plansOf (planWith [] 0) (planWith (circle 0 ∷ circle 1 ∷ []) 1) (planWith [] 0)))
+    ∷ (upload (uploadOf (run (fresh false) amongTraffic) fence) is upload idle)
+    ∷ (shown (run (fresh false) amongTraffic .shown) is shown (plansOf (planWith [] 0) (planWith (circle 0 ∷ circle 1 ∷ []) 1) (planWith [] 0)))
     ∷ []
 
 -- Every case holds.
