@@ -11,7 +11,7 @@ use Rattle.rules.specs.Limits.{flight, sizeOf, maxRepeats, expiryMs, clockValue
 use Rattle.rules.specs.Payload.{Bytes}
 use Rattle.rules.specs.Layouts.{layoutOf, itemIntId}
 use Rattle.rules.specs.Messages.{Station, station, sameStation, Item, itemInt, valuesOf, encode, itemOf}
-use Rattle.rules.specs.Model.{Plan, Task, wholeTask, partTask, Run, Upload, idle, running, Shown, Model, noPlan, planOf, uploadOf, lengthOf, fresh, nextNumber, elapsed, expected, isLast, verdictOn, whole, wholeFault, isOthers, isOwn, withPlan, put, emptied, empty, choose, inRange}
+use Rattle.rules.specs.Model.{Plan, Task, wholeTask, partTask, Run, Upload, idle, running, Shown, Model, noPlan, planOf, uploadOf, lengthOf, fresh, nextNumber, elapsed, expected, isLast, verdictOn, whole, wholeFault, isOthers, isOwn, withPlan, put, emptied, empty, flown, choose, inRange}
 use Rattle.rules.specs.NextCommand.{Found, nowhere, found, next, reach, advance}
 use Rattle.rules.specs.Calls.{Call, Request, chooses, asksList, announces, changes, clears, acknowledges, asksItem, brings, Heard, refuses, request, expiry, commandDone, heard}
 use Rattle.rules.specs.Step.{Stepped, withUpload, idleAt, onCount, partOk, onPartial, onValidItem, onItem, onAck, onClear, anyOthers, covered, onList, onRequest, onSetCurrent, onKnown, kindOk, onMessage, onTimer, act, step}
@@ -142,7 +142,7 @@ module _ (m : Model) (fits : ModelFits m) where
     unfolding onItem
     item-kept idle h item = fits
     item-kept (running r) h item =
-        let verdict = verdictOn kind (r .task) (expected r) (r .taken) item in
+        let verdict = verdictOn (m .shown .home) kind (r .task) (expected r) (r .taken) item in
         either Kept (not (sameStation from (r .station))) (λ t. fits)
         (λ t. either Kept (not (eqb (item .seq) (expected r))) (λ t. fits)
         (λ t. either Kept (not (eqb verdict accepted)) (λ t. ended-kept kind) (λ t. valid-kept r (itemOf item) h (item-bytes item))))
@@ -152,7 +152,9 @@ module _ (m : Model) (fits : ModelFits m) where
     request-kept r = either Kept (kindOk kind r) (λ t. known r) (λ t. fits)
       where
         known : (r : Request) → Kept (onKnown m from now kind r)
-        known (chooses seq) = either Kept (ltb seq (lengthOf (m .shown) flight)) (λ t. shown-kept (choose seq (m .shown)) (fits .plans)) (λ t. fits)
+        known (chooses seq) =
+            let n = flown (m .shown .home) seq in
+            either Kept (ltb n (lengthOf (m .shown) flight)) (λ t. shown-kept (choose n (m .shown)) (fits .plans)) (λ t. fits)
         known asksList = fits
         known (announces n) = count-kept n
         known (changes start end) = part-kept start end
@@ -186,19 +188,19 @@ step-fits m c fits call = act-kept m fits (heard (inRange m) c) (heard-fits (inR
 
 -- ---- from a fresh start
 
-pub fresh-fits : ModelFits fresh
-fresh-fits = record { plans = plans; uploads = uploads }
+pub fresh-fits : (home : Bool) → ModelFits (fresh home)
+fresh-fits home = record { plans = plans; uploads = uploads }
   where
     none : PlanFits noPlan
     none = record { number = omega arith; items = λ n i. omega arith }
 
-    plans : (kind : ℕ) → PlanFits (planOf (fresh .shown) kind)
+    plans : (kind : ℕ) → PlanFits (planOf (fresh home .shown) kind)
     plans zero = none
     plans (suc zero) = none
     plans (suc (suc zero)) = none
     plans (suc (suc (suc kind))) = none
 
-    uploads : (kind : ℕ) → UploadFits (uploadOf fresh kind)
+    uploads : (kind : ℕ) → UploadFits (uploadOf (fresh home) kind)
     uploads zero = tt
     uploads (suc zero) = tt
     uploads (suc (suc zero)) = tt

@@ -8,7 +8,7 @@ use borrow.Author.Tests.{ltb-false}
 use Rattle.rules.specs.Limits.{flight, sizeOf, maxRepeats, expiryMs, storeWords, accepted, shortStore, outOfRange}
 use Rattle.rules.specs.Payload.{Bytes}
 use Rattle.rules.specs.Messages.{Station, sameStation, Item, itemOf}
-use Rattle.rules.specs.Model.{Run, Upload, idle, running, Model, planOf, uploadOf, lengthOf, elapsed, expected, isLast, verdictOn, whole, wholeFault, isOthers, isOwn}
+use Rattle.rules.specs.Model.{Run, Upload, idle, running, Model, planOf, uploadOf, lengthOf, elapsed, expected, isLast, verdictOn, whole, wholeFault, isOthers, isOwn, flown}
 use Rattle.rules.specs.Calls.{Call, message, timer, done, storeLent, Request, chooses, asksList, announces, changes, clears, acknowledges, asksItem, brings, Heard, refuses, heard}
 use Rattle.rules.specs.NextCommand.{stuck}
 use Rattle.rules.specs.Step.{Answer, refused, silent, says, orders, isRefused, commandIn, Stepped, onCount, partOk, onPartial, onValidItem, onItem, onAck, onClear, anyOthers, covered, onList, onRequest, onSetCurrent, onKnown, kindOk, onMessage, onTimer}
@@ -60,14 +60,14 @@ module _ (m : Model) (from : Station) (now kind : ℕ) where
   unfolding onItem
   item-answered idle item = refl
   item-answered (running r) item =
-      let verdict = verdictOn kind (r .task) (expected r) (r .taken) item in
+      let verdict = verdictOn (m .shown .home) kind (r .task) (expected r) (r .taken) item in
       either Answered (not (sameStation from (r .station))) (λ t. refl)
       (λ t. either Answered (not (eqb (item .seq) (expected r))) (λ t. refl)
       (λ t. either Answered (not (eqb verdict accepted)) (λ t. refl) (λ t. valid-answered r (itemOf item))))
 
   known-answered : (q : Request) → Answered (onKnown m from now kind q)
   unfolding onKnown onSetCurrent onList onRequest onAck onClear
-  known-answered (chooses seq) = either Answered (ltb seq (lengthOf (m .shown) flight)) (λ t. refl) (λ t. refl)
+  known-answered (chooses seq) = either Answered (ltb (flown (m .shown .home) seq) (lengthOf (m .shown) flight)) (λ t. refl) (λ t. refl)
   known-answered asksList = refl
   known-answered (announces n) = count-answered n
   known-answered (changes start end) = part-answered start end

@@ -11,9 +11,9 @@ use Rattle.rules.specs.Limits.{flight, fence, rally, sizeOf, halfShort, storeWo
 use Rattle.rules.specs.Payload.{Bytes}
 use Rattle.rules.specs.Messages.{Station, station, sameStation, Item, current, count, ack, itemOf}
 use Rattle.rules.specs.Values.{signed, within, float, finite}
-use Rattle.rules.specs.Items.{Row, commands, paramOk, frameOk, isJump, placeFault, roomFault, faultIn, faultAmong, fault, jumpsAmong}
+use Rattle.rules.specs.Items.{Row, commands, paramOk, frameOk, isJump, placeFault, roomFault, faultIn, faultAmong, notHome, fault, jumpsAmong}
 use Rattle.rules.specs.Fence.{fenceOk}
-use Rattle.rules.specs.Model.{Plan, Task, Run, Upload, idle, running, Model, planOf, uploadOf, lengthOf, shownNumber, elapsed, expected, isLast, verdictOn, whole, wholeFault, isOthers, isOwn, put, choose, uploadInRange, inRange}
+use Rattle.rules.specs.Model.{Plan, Task, Run, Upload, idle, running, Model, planOf, uploadOf, lengthOf, shownNumber, elapsed, expected, isLast, verdictOn, whole, wholeFault, isOthers, isOwn, put, flown, choose, uploadInRange, inRange}
 use Rattle.rules.specs.Calls.{Call, message, timer, done, Request, chooses, asksList, announces, changes, clears, acknowledges, asksItem, brings, Heard, refuses, request, expiry, commandDone, isKnown, heard}
 use Rattle.rules.specs.Step.{Stepped, onCount, partOk, onPartial, onValidItem, onItem, onAck, onClear, anyOthers, covered, onList, onRequest, onSetCurrent, onKnown, kindOk, onMessage, onTimer, act, step}
 use Rattle.rule_laws.specs.Tests.{both, either}
@@ -62,13 +62,13 @@ among-small (r ∷ rs) kind n own jumps item =
     (λ e. either Small (eqb (r .kind) kind) (λ e. in-small r n own jumps item) (λ e. omega arith))
     (λ e. later)
 
-fault-small : (kind n own jumps : ℕ) (item : Item) → Small (fault kind n own jumps item)
+fault-small : (home : Bool) (kind n own jumps : ℕ) (item : Item) → Small (fault home kind n own jumps item)
 unfolding fault
-fault-small kind n own jumps item = among-small commands kind n own jumps item
+fault-small home kind n own jumps item = either Small (notHome home kind own item) (λ e. omega arith) (λ e. among-small (commands home) kind n own jumps item)
 
-verdict-small : (kind : ℕ) (t : Task) (own : ℕ) (got : List Bytes) (item : Item) → Small (verdictOn kind t own got item)
+verdict-small : (home : Bool) (kind : ℕ) (t : Task) (own : ℕ) (got : List Bytes) (item : Item) → Small (verdictOn home kind t own got item)
 unfolding verdictOn
-verdict-small kind t own got item = fault-small kind (t .count) own (cond (t .partial) 0 (jumpsAmong got)) item
+verdict-small home kind t own got item = fault-small home kind (t .count) own (cond (t .partial) 0 (jumpsAmong got)) item
 
 whole-small : (kind : ℕ) (t : Task) (items : List Bytes) → Small (wholeFault kind t items)
 unfolding wholeFault
@@ -136,10 +136,10 @@ module _ (m : Model) (fits : ModelFits m) (ranged : inRange m ≡ true) (from : 
   item-good idle fit e now item = acks-fit invalidSequence (omega arith)
   item-good (running r) fit e now item =
       let next : expected r < sizeOf flight = next-small kind (lengthOf (m .shown) kind) r e in
-      let verdict = verdictOn kind (r .task) (expected r) (r .taken) item in
+      let verdict = verdictOn (m .shown .home) kind (r .task) (expected r) (r .taken) item in
       either Good (not (sameStation from (r .station))) (λ e. acks-fit denied (omega arith))
       (λ e. either Good (not (eqb (item .seq) (expected r))) (λ e. request-fits from (expected r) kind sender (omega arith) kind-small)
-      (λ e. either Good (not (eqb verdict accepted)) (λ e. acks-fit verdict (verdict-small kind (r .task) (expected r) (r .taken) item))
+      (λ e. either Good (not (eqb verdict accepted)) (λ e. acks-fit verdict (verdict-small (m .shown .home) kind (r .task) (expected r) (r .taken) item))
       (λ e. valid-good now r item fit next)))
 
   list-good : Good (onList m from kind)
@@ -170,9 +170,10 @@ unfolding onSetCurrent choose
 current-good m fits ranged seq =
     let most : lengthOf (m .shown) flight ≤ sizeOf flight = ranged-kind m ranged flight refl .most in
     let number : (kind : ℕ) → shownNumber (lengthOf (m .shown) kind) (planOf (m .shown) kind .number) < clockValues = λ kind. shown-fits (planOf (m .shown) kind) (fits .plans kind) in
-    either Good (ltb seq (lengthOf (m .shown) flight))
-    (λ e. let below : seq < lengthOf (m .shown) flight = ltb-true seq (lengthOf (m .shown) flight) e in
-    current-fits seq (lengthOf (m .shown) flight) 0 0 _ _ _ (omega arith) (omega arith) (omega arith) (omega arith) (number flight) (number fence) (number rally))
+    let n = flown (m .shown .home) seq in
+    either Good (ltb n (lengthOf (m .shown) flight))
+    (λ e. let below : n < lengthOf (m .shown) flight = ltb-true n (lengthOf (m .shown) flight) e in
+    current-fits n (lengthOf (m .shown) flight) 0 0 _ _ _ (omega arith) (omega arith) (omega arith) (omega arith) (number flight) (number fence) (number rally))
     (λ e. text-fits)
 
 message-good : (m : Model) (from : Station) (now kind : ℕ) (r : Request) → ModelFits m → inRange m ≡ true → StationFits from → kind < byteValues → Good (onMessage m from now kind r)

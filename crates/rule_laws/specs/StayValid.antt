@@ -11,7 +11,7 @@ use Rattle.rules.specs.Limits.{flight, xLimit, yLimit, accepted, unsupported, u
 use Rattle.rules.specs.Payload.{Bytes}
 use Rattle.rules.specs.Messages.{Item, itemIn}
 use Rattle.rules.specs.Values.{signed, within, float, finite}
-use Rattle.rules.specs.Items.{Row, commands, returnHome, paramOk, among, positionalFrames, missionFrame, frameOk, jumpsAmong, placeFault, roomFault, faultIn, faultAmong, fault}
+use Rattle.rules.specs.Items.{Row, commands, returnHome, paramOk, among, positionalFrames, missionFrame, frameOk, jumpsAmong, placeFault, roomFault, faultIn, faultAmong, notHome, fault}
 use Rattle.rule_laws.specs.Tests.{either, either₂}
 
 -- a row made positional or not, all else as it is
@@ -75,32 +75,41 @@ table-stays command (r ∷ rows) kind count own jumps item = go (eqb (r .command
     go true later = either₂ Stays (eqb (r .command) (item .command)) (λ t. either₂ Stays (eqb (r .kind) kind) (λ t. row-stays r count own jumps item) (λ t e. e)) (λ t. later)
     go false later = either₂ Stays (eqb (r .command) (item .command)) (λ t e. e) (λ t. later)
 
+-- every item of a stored plan of a kind is valid in its place, as items are judged
+abbrev pub ValidBy : (judge : (kind count own jumps : ℕ) → Item → ℕ) → (kind : ℕ) → List Bytes → Type 0
+ValidBy judge kind items = (n : ℕ) → n < length items → judge kind (length items) n (jumpsAmong (take n items)) (itemIn (getD items n [])) ≡ accepted
+
 -- ---- return home
 
--- the command table as it was: return home positional, every other row as it is
-abbrev pub commandsBefore : List Row
-commandsBefore = placedAt returnHome true commands
+module _ (home : Bool) where
+  -- the command table as it was: return home positional, every other row as it is
+  abbrev pub commandsBefore : List Row
+  commandsBefore = placedAt returnHome true (commands home)
 
--- An item that was valid is valid.
-pub item-stays : (kind count own jumps : ℕ) (item : Item) → faultAmong commandsBefore kind count own jumps item ≡ accepted → fault kind count own jumps item ≡ accepted
-unfolding fault
-item-stays kind count own jumps item = table-stays returnHome commandsBefore kind count own jumps item
+  -- the result for an item by that table
+  abbrev pub faultBefore : (kind count own jumps : ℕ) → Item → ℕ
+  faultBefore kind count own jumps item = cond (notHome home kind own item) unsupported (faultAmong commandsBefore kind count own jumps item)
 
--- every item of a stored plan of a kind is valid by a table, in its place
-abbrev pub ValidBy : List Row → (kind : ℕ) → List Bytes → Type 0
-ValidBy table kind items =
-    (n : ℕ) → n < length items → faultAmong table kind (length items) n (jumpsAmong (take n items)) (itemIn (getD items n [])) ≡ accepted
+  -- An item that was valid is valid.
+  pub item-stays : (kind count own jumps : ℕ) (item : Item) → faultBefore kind count own jumps item ≡ accepted → fault home kind count own jumps item ≡ accepted
+  unfolding fault
+  item-stays kind count own jumps item = either₂ Stays (notHome home kind own item) (λ t e. e) (λ t. table-stays returnHome commandsBefore kind count own jumps item)
 
--- A stored plan that was valid is valid.
-pub plan-stays : (kind : ℕ) (items : List Bytes) → ValidBy commandsBefore kind items → ValidBy commands kind items
-unfolding fault
-plan-stays kind items valid n inside = item-stays kind (length items) n (jumpsAmong (take n items)) (itemIn (getD items n [])) (valid n inside)
+  -- A stored plan that was valid is valid.
+  pub plan-stays : (kind : ℕ) (items : List Bytes) → ValidBy faultBefore kind items → ValidBy (fault home) kind items
+  plan-stays kind items valid n inside = item-stays kind (length items) n (jumpsAmong (take n items)) (itemIn (getD items n [])) (valid n inside)
 
--- Return home is judged by its frame alone, which must be one of the DO commands' frames: whatever its params, x, y and z.
-pub home-result : (count own jumps : ℕ) (item : Item) → item .command ≡ returnHome → fault flight count own jumps item ≡ cond (frameOk false (item .frame)) accepted unsupportedFrame
-unfolding fault faultAmong faultIn paramOk placeFault
-home-result count own jumps item c = rw c (go (frameOk false (item .frame)))
-  where
-    go : (t : Bool) → cond (not t) unsupportedFrame accepted ≡ cond t accepted unsupportedFrame
-    go true = refl
-    go false = refl
+  -- Return home is judged by its frame alone, which must be one of the DO commands' frames: whatever its params, x, y and z. Only where item 0 is home it is not taken there.
+  pub return-home-result :
+      (count own jumps : ℕ) (item : Item) → item .command ≡ returnHome
+      → fault home flight count own jumps item ≡ cond (home && eqb own 0) unsupported (cond (frameOk false (item .frame)) accepted unsupportedFrame)
+  unfolding fault faultAmong faultIn paramOk placeFault
+  return-home-result count own jumps item c = rw c (go home (eqb own 0) (frameOk false (item .frame)))
+    where
+      go : (h first t : Bool)
+          → cond (h && true && first && true) unsupported (cond (not t) unsupportedFrame accepted) ≡ cond (h && first) unsupported (cond t accepted unsupportedFrame)
+      go true true t = refl
+      go true false true = refl
+      go true false false = refl
+      go false first true = refl
+      go false first false = refl

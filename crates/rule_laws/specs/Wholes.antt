@@ -187,9 +187,9 @@ withParam2 bits item =
 
 module _ (item : Item) (none : nanBits binary32 (item .param2) ≡ true) (bits : ℕ) (one : wholeOf (float bits) ≡ integer (pos 1)) where
   -- It is judged as the same jump with a param 2 that is 1, in every place.
-  pub judged-as-one : (kind count own jumps : ℕ) → item .command ≡ jump → fault kind count own jumps item ≡ fault kind count own jumps (withParam2 bits item)
+  pub judged-as-one : (home : Bool) (kind count own jumps : ℕ) → item .command ≡ jump → fault home kind count own jumps item ≡ fault home kind count own jumps (withParam2 bits item)
   unfolding fault faultAmong faultIn paramOk placeFault wholeFrom
-  judged-as-one kind count own jumps c = rw (c, no-value-pattern (item .param2) .1 none, one)
+  judged-as-one home kind count own jumps c = rw (c, no-value-pattern (item .param2) .1 none, one)
 
   -- It repeats as often, once.
   pub repeats-as-one : (repeatOf item ≡ pos 1) × (repeatOf (withParam2 bits item) ≡ pos 1)
