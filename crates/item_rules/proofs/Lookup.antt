@@ -6,7 +6,7 @@ use mathlib.Core.Bool.{Bool, true, false, cond}
 use lib.Dec.{eqb}
 use Rattle.rules.specs.Limits.{unsupported}
 use Rattle.rules.specs.Messages.{Item}
-use Rattle.rules.specs.Items.{Row, commands, faultIn, faultAmong, fault}
+use Rattle.rules.specs.Items.{Row, faultIn, faultAmong}
 use Rattle.item_rules.specs.Table.{Found, row, noRow, lookup}
 
 module _ (kind count own jumps : ℕ) (i : Item) where
@@ -18,16 +18,12 @@ module _ (kind count own jumps : ℕ) (i : Item) where
   byFound (row r) = byRow r
   byFound noRow = unsupported
 
-  among : (rs : List Row) → byFound (lookup (i .command) rs) ≡ faultAmong rs kind count own jumps i
+  pub by-lookup : (rs : List Row) → byFound (lookup (i .command) rs) ≡ faultAmong rs kind count own jumps i
   unfolding lookup faultAmong
-  among [] = refl
-  among (r ∷ rs) = go (eqb (r .command) (i .command)) (among rs)
+  by-lookup [] = refl
+  by-lookup (r ∷ rs) = go (eqb (r .command) (i .command)) (by-lookup rs)
     where
       go : (t : Bool) → byFound (lookup (i .command) rs) ≡ faultAmong rs kind count own jumps i
           → byFound (cond t (row r) (lookup (i .command) rs)) ≡ cond t (byRow r) (faultAmong rs kind count own jumps i)
       go true e = refl
       go false e = e
-
-  pub by-lookup : byFound (lookup (i .command) commands) ≡ fault kind count own jumps i
-  unfolding fault
-  by-lookup = among commands

@@ -19,7 +19,7 @@ ruleOf AboveZero = rules.isAboveZero
 ruleOf (UpTo limit) = rules.isUpTo limit
 ruleOf (Whole low high) = rules.isWhole low high
 ruleOf (WholeOrNone low high) = rules.isWholeOrNone low high
-ruleOf Target = rules.isTarget
+ruleOf (Target home) = rules.isTarget home
 
 -- a command's row
 abbrev pub rowOf : ℕ → Row → rules.Row

@@ -43,11 +43,13 @@ fn whole_within(low: i32, high: i32, x: f32) -> bool
     }
 }
 
-fn is_target(count: u16, own: u16, x: f32) -> bool
-    ensures { λ r. ⌜ r ≡ targetIn count own (wholeOf x) ⌝ }
+fn is_target(home: bool, count: u16, own: u16, x: f32) -> bool
+    ensures { λ r. ⌜ r ≡ targetIn home count own (wholeOf x) ⌝ }
 {
     match values::whole_of(x) {
-        Whole::Integer(n) => (0 <= n) & (n < count as i32) & (n != own as i32),
+        Whole::Integer(n) => {
+            (0 <= n) & (n < count as i32) & (n != own as i32) & !(home & (n == 0))
+        }
         Whole::NoValue => false,
         Whole::NotWhole => false,
     }
@@ -64,7 +66,7 @@ fn param_ok(rule: ParamRule, count: u16, own: u16, x: f32) -> bool
         ParamRule::UpTo(limit) => values::zero_to(limit, x),
         ParamRule::Whole(low, high) => whole_within(low, high, x),
         ParamRule::WholeOrNone(low, high) => values::is_nan(x) | whole_within(low, high, x),
-        ParamRule::Target => is_target(count, own, x),
+        ParamRule::Target(home) => is_target(home, count, own, x),
     }
 }
 

@@ -11,6 +11,7 @@ use limits::JUMP;
 use limits::RALLY;
 use limits::RETURN_HOME;
 use limits::SET_SERVO;
+use limits::WAYPOINT;
 use limits::YAW;
 
 // What is asked of a param.
@@ -24,8 +25,8 @@ pub enum ParamRule {
     Whole(i32, i32),
     // The same, or no value.
     WholeOrNone(i32, i32),
-    // Whole, at least 0, below the count, not the item's own number.
-    Target,
+    // Whole, at least 0, below the count, not the item's own number; not 0 where item 0 is home.
+    Target(bool),
 }
 
 // A row of the table, for the commands of one arm.
@@ -53,12 +54,12 @@ fn listed_as(kind: u8, positional: bool, param1: ParamRule, param2: ParamRule) -
     })
 }
 
-// "16 to 183 belong to flight, 5000 to 5004 to fence, 5100 to rally; anything else is 3"
-pub fn row_of(command: u16) -> Listing
-    ensures { λ r. ⌜ lookedUp command r ≡ lookup command commands ⌝ }
+// "16 to 183 belong to flight, 5000 to 5004 to fence, 5100 to rally; anything else is 3". Of a jump it matters whether item 0 is home.
+pub fn row_of(home: bool, command: u16) -> Listing
+    ensures { λ r. ⌜ lookedUp command r ≡ lookup command (commands home) ⌝ }
 {
     match command {
-        16 | 18..=19 => listed_as(FLIGHT, true, ParamRule::AtLeastZero, ParamRule::Anything),
+        WAYPOINT | 18..=19 => listed_as(FLIGHT, true, ParamRule::AtLeastZero, ParamRule::Anything),
         17 | 21..=22 | 31 => listed_as(FLIGHT, true, ParamRule::Anything, ParamRule::Anything),
         RETURN_HOME => listed_as(FLIGHT, false, ParamRule::Anything, ParamRule::Anything),
         DELAY | DISTANCE => listed_as(FLIGHT, false, ParamRule::AtLeastZero, ParamRule::Anything),
@@ -66,7 +67,7 @@ pub fn row_of(command: u16) -> Listing
         JUMP => listed_as(
             FLIGHT,
             false,
-            ParamRule::Target,
+            ParamRule::Target(home),
             ParamRule::WholeOrNone(-1, 32767),
         ),
         CHANGE_SPEED => listed_as(FLIGHT, false, ParamRule::Anything, ParamRule::Finite),

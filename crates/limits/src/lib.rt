@@ -45,6 +45,8 @@ pub const SHORT_STORE: u8 = 14;
 pub const OUT_OF_RANGE: u8 = 15;
 
 // The flight commands that other rules name.
+pub const WAYPOINT: u16 = 16;
+
 pub const RETURN_HOME: u16 = 20;
 
 pub const DELAY: u16 = 112;

@@ -36,10 +36,10 @@ runs-are (pos r) c = refl
 runs-are (negsuc r) c = refl
 
 -- the end of a search
-pub settles-last : (items : List Bytes) (counts : List ℕ) (n : ℕ) (met : Met) → met ≡ metFor (searchFrom items counts n)
-    → settledAs met counts ≡ rules.search zero items counts n
+pub settles-last : (home : Bool) (items : List Bytes) (counts : List ℕ) (n : ℕ) (met : Met) → met ≡ metFor (searchFrom home items counts n)
+    → settledAs met counts ≡ rules.search home zero items counts n
 unfolding settledAs rules.search settle
-settles-last items counts n met e = ap (λ (m : Met). settledAs m counts) e ∙ go (searchFrom items counts n)
+settles-last home items counts n met e = ap (λ (m : Met). settledAs m counts) e ∙ go (searchFrom home items counts n)
   where
     go : (m : rules.Met) → settledAs (metFor m) counts ≡ settle m counts (λ (j : ℕ) (item : Item). nowhere stuck)
     go (ends c) = ap nowhere (order-for c)
@@ -47,32 +47,32 @@ settles-last items counts n met e = ap (λ (m : Met). settledAs m counts) e ∙ 
     go (follows j item) = refl
 
 -- what ends a search earlier: everything but a jump
-pub settles-sooner : (left : ℕ) (items : List Bytes) (counts : List ℕ) (n : ℕ) (met : Met) → met ≡ metFor (searchFrom items counts n)
-    → ((j target : ℕ) (counted : Bool) → met ≡ Follows j target counted → ⊥) → settledAs met counts ≡ rules.search (suc left) items counts n
+pub settles-sooner : (home : Bool) (left : ℕ) (items : List Bytes) (counts : List ℕ) (n : ℕ) (met : Met) → met ≡ metFor (searchFrom home items counts n)
+    → ((j target : ℕ) (counted : Bool) → met ≡ Follows j target counted → ⊥) → settledAs met counts ≡ rules.search home (suc left) items counts n
 unfolding settledAs rules.search settle
-settles-sooner left items counts n met e none = ap (λ (m : Met). settledAs m counts) e ∙ go (searchFrom items counts n) e
+settles-sooner home left items counts n met e none = ap (λ (m : Met). settledAs m counts) e ∙ go (searchFrom home items counts n) e
   where
     go : (m : rules.Met) → met ≡ metFor m
-        → settledAs (metFor m) counts ≡ settle m counts (λ (j : ℕ) (item : Item). rules.search left items (countsAfter counts j item) (targetOf item))
+        → settledAs (metFor m) counts ≡ settle m counts (λ (j : ℕ) (item : Item). rules.search home left items (countsAfter counts j item) (targetOf item))
     go (ends c) h = ap nowhere (order-for c)
     go (stands k item) h = ap (found k counts) (order-for (commandOf k item))
     go (follows j item) h = absurd (none j (targetOf item) (isCounted (repeatOf item)) h)
 
 -- a jump that is followed
-pub follows-on : (left : ℕ) (items : List Bytes) (counts : List ℕ) (n : ℕ) (met : Met) (j target : ℕ) (counted : Bool) → met ≡ metFor (searchFrom items counts n)
-    → met ≡ Follows j target counted → rules.search (suc left) items counts n ≡ rules.search left items (countedAs counts j counted) target
+pub follows-on : (home : Bool) (left : ℕ) (items : List Bytes) (counts : List ℕ) (n : ℕ) (met : Met) (j target : ℕ) (counted : Bool) → met ≡ metFor (searchFrom home items counts n)
+    → met ≡ Follows j target counted → rules.search home (suc left) items counts n ≡ rules.search home left items (countedAs counts j counted) target
 unfolding rules.search settle
-follows-on left items counts n met j target counted e is = go (searchFrom items counts n) (sym is ∙ e)
+follows-on home left items counts n met j target counted e is = go (searchFrom home items counts n) (sym is ∙ e)
   where
     go : (m : rules.Met) → Follows j target counted ≡ metFor m
-        → settle m counts (λ (k : ℕ) (item : Item). rules.search left items (countsAfter counts k item) (targetOf item)) ≡ rules.search left items (countedAs counts j counted) target
+        → settle m counts (λ (k : ℕ) (item : Item). rules.search home left items (countsAfter counts k item) (targetOf item)) ≡ rules.search home left items (countedAs counts j counted) target
     go (ends c) h = absurd (let z : _≡_ {A = ℕ} 0 1 = cc in omega arith)
     go (stands k item) h = absurd (let z : _≡_ {A = ℕ} 0 1 = cc in omega arith)
     go (follows k item) h =
         let ek : k ≡ j = cc in
         let et : targetOf item ≡ target = cc in
         let ec : isCounted (repeatOf item) ≡ counted = cc in
-        ap (λ (c : ℕ). rules.search left items (set counts k c) (targetOf item)) (runs-are (repeatOf item) (getD counts k 0))
-        ∙ ap (λ (b : Bool). rules.search left items (countedAs counts k b) (targetOf item)) ec
-        ∙ ap (λ (i : ℕ). rules.search left items (countedAs counts i counted) (targetOf item)) ek
-        ∙ ap (rules.search left items (countedAs counts j counted)) et
+        ap (λ (c : ℕ). rules.search home left items (set counts k c) (targetOf item)) (runs-are (repeatOf item) (getD counts k 0))
+        ∙ ap (λ (b : Bool). rules.search home left items (countedAs counts k b) (targetOf item)) ec
+        ∙ ap (λ (i : ℕ). rules.search home left items (countedAs counts i counted) (targetOf item)) ek
+        ∙ ap (rules.search home left items (countedAs counts j counted)) et

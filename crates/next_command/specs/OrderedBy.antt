@@ -26,7 +26,7 @@ pub record OrderedBy (st : State) (store : Store) (st′ : State) (command : Com
 
 -- "The first item that is no jump becomes current and begun"; otherwise the state stays
 abbrev pub reachedState : State → (stands : Bool) (n : ℕ) (counts : List ℕ) → State
-reachedState st stands n counts = cond stands (record { plans = st .plans; current = n; begun = true; counts = counts }) st
+reachedState st stands n counts = cond stands (record { plans = st .plans; current = n; begun = true; home = st .home; counts = counts }) st
 
 module _ (st : State) (store : Store) (n : ℕ) (counts : List ℕ) (c : rules.Command) where
   shows : (stands : Bool) → cond stands (found n counts c) (nowhere c) ≡ rules.next (view st store .shown)

@@ -62,16 +62,23 @@ fn counted(counts: [u16; JUMP_COUNTS], j: u16, up: bool) -> [u16; JUMP_COUNTS]
     after
 }
 
-// The search from item n.
-pub fn find(store: &[u32], half: bool, len: u16, counts: [u16; JUMP_COUNTS], from: u16) -> Found
+// The search from item n, where item 0 may be home.
+pub fn find(
+    home: bool,
+    store: &[u32],
+    half: bool,
+    len: u16,
+    counts: [u16; JUMP_COUNTS],
+    from: u16,
+) -> Found
     requires { ⌜ (storeWords ≤ length (now store)) × (len ≤ sizeOf flight) × (from ≤ sizeOf flight) ⌝ }
-    ensures { λ r. ⌜ foundOf r ≡ rules.search maxFollowed (itemsIn words (now (store .entry)) half flight len) counts from ⌝ }
+    ensures { λ r. ⌜ foundOf r ≡ rules.search home maxFollowed (itemsIn words (now (store .entry)) half flight len) counts from ⌝ }
 {
     let mut runs = counts;
     let mut n = from;
     let mut left = MAX_FOLLOWED;
     while 0 < left {
-        let met = meet(store, half, len, runs, n);
+        let met = meet(home, store, half, len, runs, n);
         let Met::Follows(j, target, up) = met else {
             return settled(met, runs);
         };
@@ -80,5 +87,5 @@ pub fn find(store: &[u32], half: bool, len: u16, counts: [u16; JUMP_COUNTS], fro
         n = target;
         left -= 1;
     }
-    settled(meet(store, half, len, runs, n), runs)
+    settled(meet(home, store, half, len, runs, n), runs)
 }

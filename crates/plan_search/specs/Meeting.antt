@@ -38,9 +38,9 @@ unfoldable pub jumpAs : ℤ → (target j runs : ℕ) → Look
 jumpAs repeat target j runs = cond (passedOver repeat runs) PassedOver (Meets (Follows j target (isCounted repeat)))
 
 -- what an item is to a search
-unfoldable pub lookAs : (size : ℕ) (counts : List ℕ) (n j : ℕ) → Item → Look
-lookAs size counts n j item =
-    cond (not (eqb (fault flight size n j item) accepted)) (Meets (Ends Stuck))
+unfoldable pub lookAs : (home : Bool) (size : ℕ) (counts : List ℕ) (n j : ℕ) → Item → Look
+lookAs home size counts n j item =
+    cond (not (eqb (fault home flight size n j item) accepted)) (Meets (Ends Stuck))
     (cond (not (isJump item)) (Meets (Stands n (commandFor (commandOf n item))))
     (jumpAs (repeatOf item) (targetOf item) j (getD counts j 0)))
 
@@ -48,17 +48,17 @@ abbrev pub onwards : Look → Met → Met
 onwards (Meets met) rest = met
 onwards PassedOver rest = rest
 
-pub meets-one : (size : ℕ) (counts : List ℕ) (b : Bytes) (rest : List Bytes) (n j : ℕ)
-    → metFor (meets size counts (b ∷ rest) n j) ≡ onwards (lookAs size counts n j (itemIn b)) (metFor (meets size counts rest (suc n) (suc j)))
+pub meets-one : (home : Bool) (size : ℕ) (counts : List ℕ) (b : Bytes) (rest : List Bytes) (n j : ℕ)
+    → metFor (meets home size counts (b ∷ rest) n j) ≡ onwards (lookAs home size counts n j (itemIn b)) (metFor (meets home size counts rest (suc n) (suc j)))
 unfolding meets lookAs jumpAs
-meets-one size counts b rest n j =
-    go (not (eqb (fault flight size n j (itemIn b)) accepted)) (not (isJump (itemIn b))) (passedOver (repeatOf (itemIn b)) (getD counts j 0))
+meets-one home size counts b rest n j =
+    go (not (eqb (fault home flight size n j (itemIn b)) accepted)) (not (isJump (itemIn b))) (passedOver (repeatOf (itemIn b)) (getD counts j 0))
   where
     go : (broken other over : Bool)
-        → metFor (cond broken (ends rules.stuck) (cond other (stands n (itemIn b)) (cond over (meets size counts rest (suc n) (suc j)) (follows j (itemIn b)))))
+        → metFor (cond broken (ends rules.stuck) (cond other (stands n (itemIn b)) (cond over (meets home size counts rest (suc n) (suc j)) (follows j (itemIn b)))))
         ≡ onwards (cond broken (Meets (Ends Stuck)) (cond other (Meets (Stands n (commandFor (commandOf n (itemIn b)))))
         (cond over PassedOver (Meets (Follows j (targetOf (itemIn b)) (isCounted (repeatOf (itemIn b))))))))
-        (metFor (meets size counts rest (suc n) (suc j)))
+        (metFor (meets home size counts rest (suc n) (suc j)))
     go true other over = refl
     go false true over = refl
     go false false true = refl
@@ -76,13 +76,13 @@ pub record Followed (size : ℕ) (counts : List ℕ) (j target : ℕ) (counted :
   pub inside : target < size
   pub runs : counted ≡ true → getD counts j 0 < maxRuns
 
-follows-one : (size : ℕ) (counts : List ℕ) (n j : ℕ) (i : Item) → not (eqb (fault flight size n j i) accepted) ≡ false → not (isJump i) ≡ false
+follows-one : (home : Bool) (size : ℕ) (counts : List ℕ) (n j : ℕ) (i : Item) → not (eqb (fault home flight size n j i) accepted) ≡ false → not (isJump i) ≡ false
     → passedOver (repeatOf i) (getD counts j 0) ≡ false → Followed size counts j (targetOf i) (isCounted (repeatOf i))
-follows-one size counts n j i ok is over =
-    let valid = valid-jump size n j i (eqb-true (fault flight size n j i) accepted (not-false (eqb (fault flight size n j i) accepted) ok)) (not-false (isJump i) is) in
+follows-one home size counts n j i ok is over =
+    let valid = valid-jump home size n j i (eqb-true (fault home flight size n j i) accepted (not-false (eqb (fault home flight size n j i) accepted) ok)) (not-false (isJump i) is) in
     record {
       room = valid .room;
-      inside = target-below size n (wholeOf (float (i .param1))) (valid .target);
+      inside = target-below home size n (wholeOf (float (i .param1))) (valid .target);
       runs = counted-below (repeatOf i) (getD counts j 0) (valid .repeats) over;
     }
 
@@ -94,32 +94,32 @@ same-followed {size} {counts} {j} {t} {k} {u} {b} {c} e f =
     let eb : b ≡ c = cc in
     subst (λ (x : ℕ). Followed size counts x u c) ej (subst (λ (x : ℕ). Followed size counts j x c) et (subst (λ (x : Bool). Followed size counts j t x) eb f))
 
-pub follows-known : (size : ℕ) (counts : List ℕ) (rest : List Bytes) (n i : ℕ) {j t : ℕ} {c : Bool}
-    → metFor (meets size counts rest n i) ≡ Follows j t c → Followed size counts j t c
+pub follows-known : (home : Bool) (size : ℕ) (counts : List ℕ) (rest : List Bytes) (n i : ℕ) {j t : ℕ} {c : Bool}
+    → metFor (meets home size counts rest n i) ≡ Follows j t c → Followed size counts j t c
 unfolding meets
-follows-known size counts [] n i e = absurd (let z : _≡_ {A = ℕ} 0 1 = cc in omega arith)
-follows-known size counts (b ∷ rest) n i {j} {t} {c} e =
-    go (not (eqb (fault flight size n i (itemIn b)) accepted)) (not (isJump (itemIn b))) (passedOver (repeatOf (itemIn b)) (getD counts i 0)) refl refl refl
-    (follows-known size counts rest (suc n) (suc i)) e
+follows-known home size counts [] n i e = absurd (let z : _≡_ {A = ℕ} 0 1 = cc in omega arith)
+follows-known home size counts (b ∷ rest) n i {j} {t} {c} e =
+    go (not (eqb (fault home flight size n i (itemIn b)) accepted)) (not (isJump (itemIn b))) (passedOver (repeatOf (itemIn b)) (getD counts i 0)) refl refl refl
+    (follows-known home size counts rest (suc n) (suc i)) e
   where
-    go : (broken other over : Bool) → not (eqb (fault flight size n i (itemIn b)) accepted) ≡ broken → not (isJump (itemIn b)) ≡ other
+    go : (broken other over : Bool) → not (eqb (fault home flight size n i (itemIn b)) accepted) ≡ broken → not (isJump (itemIn b)) ≡ other
         → passedOver (repeatOf (itemIn b)) (getD counts i 0) ≡ over
-        → (metFor (meets size counts rest (suc n) (suc i)) ≡ Follows j t c → Followed size counts j t c)
-        → metFor (cond broken (ends rules.stuck) (cond other (stands n (itemIn b)) (cond over (meets size counts rest (suc n) (suc i)) (follows i (itemIn b))))) ≡ Follows j t c
+        → (metFor (meets home size counts rest (suc n) (suc i)) ≡ Follows j t c → Followed size counts j t c)
+        → metFor (cond broken (ends rules.stuck) (cond other (stands n (itemIn b)) (cond over (meets home size counts rest (suc n) (suc i)) (follows i (itemIn b))))) ≡ Follows j t c
         → Followed size counts j t c
     go true other over eb eo ev later h = absurd (let z : _≡_ {A = ℕ} 0 1 = cc in omega arith)
     go false true over eb eo ev later h = absurd (let z : _≡_ {A = ℕ} 0 1 = cc in omega arith)
     go false false true eb eo ev later h = later h
-    go false false false eb eo ev later h = same-followed h (follows-one size counts n i (itemIn b) eb eo ev)
+    go false false false eb eo ev later h = same-followed h (follows-one home size counts n i (itemIn b) eb eo ev)
 
 -- a jump that is passed over is one of the plan's fifteen
-pub over-room : (size : ℕ) (counts : List ℕ) (n j : ℕ) (i : Item) → lookAs size counts n j i ≡ PassedOver → j < maxJumps
+pub over-room : (home : Bool) (size : ℕ) (counts : List ℕ) (n j : ℕ) (i : Item) → lookAs home size counts n j i ≡ PassedOver → j < maxJumps
 unfolding lookAs
-over-room size counts n j i = go (eqb (fault flight size n j i) accepted) (isJump i) refl refl
+over-room home size counts n j i = go (eqb (fault home flight size n j i) accepted) (isJump i) refl refl
   where
-    go : (fine is : Bool) → eqb (fault flight size n j i) accepted ≡ fine → isJump i ≡ is
+    go : (fine is : Bool) → eqb (fault home flight size n j i) accepted ≡ fine → isJump i ≡ is
         → cond (not fine) (Meets (Ends Stuck)) (cond (not is) (Meets (Stands n (commandFor (commandOf n i)))) (jumpAs (repeatOf i) (targetOf i) j (getD counts j 0))) ≡ PassedOver
         → j < maxJumps
     go false is ef ei h = absurd (let z : _≡_ {A = ℕ} 0 1 = cc in omega arith)
     go true false ef ei h = absurd (let z : _≡_ {A = ℕ} 0 1 = cc in omega arith)
-    go true true ef ei h = valid-jump size n j i (eqb-true (fault flight size n j i) accepted ef) ei .room
+    go true true ef ei h = valid-jump home size n j i (eqb-true (fault home flight size n j i) accepted ef) ei .room

@@ -69,12 +69,20 @@ fn jump_look(repeat: i32, target: u16, j: u16, runs: u16) -> Look
 }
 
 // Item n of a plan of len items, with j jumps before it.
-fn look_at(store: &[u32], half: bool, len: u16, counts: [u16; JUMP_COUNTS], n: u16, j: u16) -> Look
+fn look_at(
+    home: bool,
+    store: &[u32],
+    half: bool,
+    len: u16,
+    counts: [u16; JUMP_COUNTS],
+    n: u16,
+    j: u16,
+) -> Look
     requires { ⌜ (storeWords ≤ length (now store)) × (len ≤ sizeOf flight) × (n < len) ⌝ }
-    ensures { λ r. ⌜ r ≡ lookAs len counts n j (itemIn (itemAt words (now (store .entry)) half flight n)) ⌝ }
+    ensures { λ r. ⌜ r ≡ lookAs home len counts n j (itemIn (itemAt words (now (store .entry)) half flight n)) ⌝ }
 {
     let item = storage::fetch(store, FLIGHT, half, n);
-    if item_rules::verdict(item, FLIGHT, len, n, j) != ACCEPTED {
+    if item_rules::verdict(home, item, FLIGHT, len, n, j) != ACCEPTED {
         return Look::Meets(Met::Ends(Command::Stuck));
     }
     if !item::is_jump(item) {
@@ -87,6 +95,7 @@ fn look_at(store: &[u32], half: bool, len: u16, counts: [u16; JUMP_COUNTS], n: u
 
 // From item n on, with j jumps before it.
 fn scan(
+    home: bool,
     store: &[u32],
     half: bool,
     len: u16,
@@ -95,12 +104,12 @@ fn scan(
     before: u16,
 ) -> Met
     requires { ⌜ (storeWords ≤ length (now store)) × (len ≤ sizeOf flight) ⌝ }
-    ensures { λ r. ⌜ r ≡ metFor (meets len counts (drop from (itemsIn words (now (store .entry)) half flight len)) from before) ⌝ }
+    ensures { λ r. ⌜ r ≡ metFor (meets home len counts (drop from (itemsIn words (now (store .entry)) half flight len)) from before) ⌝ }
 {
     let mut n = from;
     let mut j = before;
     while n < len {
-        match look_at(store, half, len, counts, n, j) {
+        match look_at(home, store, half, len, counts, n, j) {
             Look::Meets(met) => return met,
             Look::PassedOver => {}
         }
@@ -110,11 +119,18 @@ fn scan(
     Met::Ends(Command::Finished)
 }
 
-// What a search from item n meets.
-pub fn meet(store: &[u32], half: bool, len: u16, counts: [u16; JUMP_COUNTS], n: u16) -> Met
+// What a search from item n meets, where item 0 may be home.
+pub fn meet(
+    home: bool,
+    store: &[u32],
+    half: bool,
+    len: u16,
+    counts: [u16; JUMP_COUNTS],
+    n: u16,
+) -> Met
     requires { ⌜ (storeWords ≤ length (now store)) × (len ≤ sizeOf flight) × (n ≤ sizeOf flight) ⌝ }
-    ensures { λ r. ⌜ r ≡ metFor (searchFrom (itemsIn words (now (store .entry)) half flight len) counts n) ⌝ }
+    ensures { λ r. ⌜ r ≡ metFor (searchFrom home (itemsIn words (now (store .entry)) half flight len) counts n) ⌝ }
 {
     let before = places::jumps(store, FLIGHT, half, n);
-    scan(store, half, len, counts, n, before)
+    scan(home, store, half, len, counts, n, before)
 }

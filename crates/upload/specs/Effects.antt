@@ -15,7 +15,7 @@ use Rattle.upload.specs.Turns.{emptied}
 
 -- a kind's plan becomes another
 abbrev pub turnedState : State → (kind : ℕ) → Plan → State
-turnedState st kind p = record { plans = set (st .plans) kind p; current = st .current; begun = st .begun; counts = st .counts }
+turnedState st kind p = record { plans = set (st .plans) kind p; current = st .current; begun = st .begun; home = st .home; counts = st .counts }
 
 -- it is replaced or emptied, and the flight plan's progress begins anew; or a part of it is replaced, and the flight plan's jump counts alone do
 unfoldable pub renewedState : (partial : Bool) → State → (kind : ℕ) → Plan → State
@@ -24,6 +24,7 @@ renewedState partial st kind p =
       plans = set (st .plans) kind p;
       current = cond (eqb kind flight && not partial) 0 (st .current);
       begun = cond (eqb kind flight && not partial) false (st .begun);
+      home = st .home;
       counts = cond (eqb kind flight) noCounts (st .counts);
     }
 
@@ -34,7 +35,7 @@ emptiedState st (kind ∷ ks) = emptiedState (renewedState false st kind (emptie
 
 -- an item is made current, not yet begun
 abbrev pub chosenState : State → (seq : ℕ) → State
-chosenState st seq = record { plans = st .plans; current = seq; begun = false; counts = st .counts }
+chosenState st seq = record { plans = st .plans; current = seq; begun = false; home = st .home; counts = st .counts }
 
 abbrev pub applied : State → (kind : ℕ) → Effect → State
 applied st kind Nothing = st

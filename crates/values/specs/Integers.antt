@@ -52,11 +52,13 @@ module _ (w : rules.Whole) (n : ℤ) (r : Whole) (is : r ≡ Integer n) (reads :
   unfolding wholeFrom
   within-is low high l h = rw (whole-is, back-is n f, back-is low l, back-is high h)
 
-  pub target-is : (count own : ℕ) → count < halfClock → ((leZ (pos 0) (back n) && ltZ (back n) (toZ w32 count)) && not (eqb (ofZ w32 n) own)) ≡ targetIn count own w
+  pub target-is :
+      (home : Bool) (count own : ℕ) → count < halfClock
+      → (((leZ (pos 0) (back n) && ltZ (back n) (toZ w32 count)) && not (eqb (ofZ w32 n) own)) && not (home && eqb (ofZ w32 n) 0)) ≡ targetIn home count own w
   unfolding targetIn
-  target-is count own c = rw (whole-is, back-is n f, toZ-pos w32 count c) (go n)
+  target-is home count own c = rw (whole-is, back-is n f, toZ-pos w32 count c) (go n)
     where
-      go : (n : ℤ) → ((leZ (pos 0) n && ltZ n (pos count)) && not (eqb (ofZ w32 n) own)) ≡ targetIn count own (integer n)
+      go : (n : ℤ) → (((leZ (pos 0) n && ltZ n (pos count)) && not (eqb (ofZ w32 n) own)) && not (home && eqb (ofZ w32 n) 0)) ≡ targetIn home count own (integer n)
       go (pos t) = rw (leb·zero t)
       go (negsuc t) = refl
 

@@ -29,33 +29,33 @@ use Rattle.plan_search.specs.Meeting.{lookAs, jumpAs}
 use Rattle.plan_search.proofs.look_at.Statement.{statement}
 use Rattle.plan_search.proofs.look_at.Tie as tie
 
-module _ (size : ℕ) (counts : List ℕ) (n j : ℕ) (item : Item) (i : rules.Item) (is : item ≡ itemFor i) (v : ℕ) (ev : v ≡ fault flight size n j (patterns item)) where
-  judged : v ≡ fault flight size n j i
-  judged = ev ∙ ap (fault flight size n j) (patterns-of is)
+module _ (home : Bool) (size : ℕ) (counts : List ℕ) (n j : ℕ) (item : Item) (i : rules.Item) (is : item ≡ itemFor i) (v : ℕ) (ev : v ≡ fault home flight size n j (patterns item)) where
+  judged : v ≡ fault home flight size n j i
+  judged = ev ∙ ap (fault home flight size n j) (patterns-of is)
 
-  breaks : (v ≡ 0 → ⊥) → Meets (Ends Stuck) ≡ lookAs size counts n j i
+  breaks : (v ≡ 0 → ⊥) → Meets (Ends Stuck) ≡ lookAs home size counts n j i
   unfolding lookAs
   breaks bad = rw (← judged, ne-eqb v accepted bad)
 
   module _ (ok : v ≡ 0) where
-    fine : fault flight size n j i ≡ accepted
+    fine : fault home flight size n j i ≡ accepted
     fine = sym judged ∙ ok
 
     servo-fits : ServoFits (patterns item)
-    servo-fits = valid-servo size n j (patterns item) (sym ev ∙ ok)
+    servo-fits = valid-servo home size n j (patterns item) (sym ev ∙ ok)
 
     module _ (b : Bool) (eb : b ≡ isJump (patterns item)) where
       jumps : b ≡ isJump i
       jumps = eb ∙ ap isJump (patterns-of is)
 
-      stands : (command : Command) → not b ≡ true → command ≡ commandFor (commandOf n (patterns item)) → Meets (Stands n command) ≡ lookAs size counts n j i
+      stands : (command : Command) → not b ≡ true → command ≡ commandFor (commandOf n (patterns item)) → Meets (Stands n command) ≡ lookAs home size counts n j i
       unfolding lookAs
       stands command other ec =
-          rw (eq-eqb (fault flight size n j i) accepted fine, ← jumps, other, ec, patterns-of is)
+          rw (eq-eqb (fault home flight size n j i) accepted fine, ← jumps, other, ec, patterns-of is)
 
       module _ (jump : not b ≡ false) where
-        valid : ValidJump size n j i
-        valid = valid-jump size n j i fine (sym jumps ∙ not-false b jump)
+        valid : ValidJump home size n j i
+        valid = valid-jump home size n j i fine (sym jumps ∙ not-false b jump)
 
         room : j < maxJumps
         room = valid .room
@@ -65,15 +65,15 @@ module _ (size : ℕ) (counts : List ℕ) (n j : ℕ) (item : Item) (i : rules.I
           target-is = et ∙ ap targetOf (patterns-of is)
 
           target-fits : size < 65536 → t < 65536
-          target-fits few = omega (arith, target-is, target-below size n (wholeOf (float (i .param1))) (valid .target))
+          target-fits few = omega (arith, target-is, target-below home size n (wholeOf (float (i .param1))) (valid .target))
 
-          follows : (repeat : ℤ) (r : Look) → SFits w32 repeat → repeat ≡ repeatOf (patterns item) → r ≡ jumpAs (back repeat) t j (getD counts j 0) → r ≡ lookAs size counts n j i
+          follows : (repeat : ℤ) (r : Look) → SFits w32 repeat → repeat ≡ repeatOf (patterns item) → r ≡ jumpAs (back repeat) t j (getD counts j 0) → r ≡ lookAs home size counts n j i
           unfolding lookAs
           follows repeat r f ew er =
               er
               ∙ ap (λ (k : ℕ). jumpAs (back repeat) k j (getD counts j 0)) target-is
               ∙ ap (λ (w : ℤ). jumpAs w (targetOf i) j (getD counts j 0)) (back-is repeat f ∙ ew ∙ ap repeatOf (patterns-of is))
-              ∙ rw (eq-eqb (fault flight size n j i) accepted fine, ← jumps, jump)
+              ∙ rw (eq-eqb (fault home flight size n j i) accepted fine, ← jumps, jump)
 
 fetch-requires : tie.Need-fetch-requires
 fetch-requires c κs = search needs
@@ -85,10 +85,10 @@ array-read-runs : tie.Need-array-read-runs
 array-read-runs c =
     let judged = c .before .before in
     let fetched = judged .before .before in
-    room _ [] _ _ _ _ (fetched .fetch .ensures) _ (judged .before .verdict .ensures) (judged .if1 .left) _ (c .before .is-jump .ensures) (c .if2 .left)
+    room _ _ [] _ _ _ _ (fetched .fetch .ensures) _ (judged .before .verdict .ensures) (judged .if1 .left) _ (c .before .is-jump .ensures) (c .if2 .left)
 
 returns : tie.Need-returns
-returns c = breaks _ _ _ _ _ _ (c .before .before .fetch .ensures) _ (c .before .verdict .ensures) (c .if1 .taken)
+returns c = breaks _ _ _ _ _ _ _ (c .before .before .fetch .ensures) _ (c .before .verdict .ensures) (c .if1 .taken)
 
 is-jump-requires : tie.Need-is-jump-requires
 is-jump-requires c κs = search needs
@@ -100,7 +100,7 @@ returns-2 : tie.Need-returns-2
 returns-2 c =
     let jumps = c .before .before in
     let judged = jumps .before in
-    stands _ _ _ _ _ _ (judged .before .before .fetch .ensures) _ (judged .before .verdict .ensures) (judged .if1 .left) _ (jumps .is-jump .ensures) _
+    stands _ _ _ _ _ _ _ (judged .before .before .fetch .ensures) _ (judged .before .verdict .ensures) (judged .if1 .left) _ (jumps .is-jump .ensures) _
     (c .before .if2 .taken) (c .command-of .ensures)
 
 mul-runs : tie.Need-mul-runs
@@ -124,7 +124,7 @@ returns-3 c =
     let jumps = read .before .before .before in
     let judged = jumps .before in
     let fetched = judged .before .before in
-    follows _ _ _ _ _ _ (fetched .fetch .ensures) _ (judged .before .verdict .ensures) (judged .if1 .left) _ (jumps .is-jump .ensures)
+    follows _ _ _ _ _ _ _ (fetched .fetch .ensures) _ (judged .before .verdict .ensures) (judged .if1 .left) _ (jumps .is-jump .ensures)
     (read .before .before .if2 .left) _ (read .number1 .ensures) _ _ (search needs) (read .before .repeat-of .ensures) (c .jump-look .ensures)
 
 pub look-at-spec : {M : Type 1} → statement M

@@ -18,21 +18,21 @@ use Rattle.plan_search.specs.Meeting.{metFor}
 use Rattle.plan_search.proofs.meet.Statement.{statement}
 use Rattle.plan_search.proofs.meet.Tie as tie
 
-module _ (store : Store) (half : Bool) (len : ℕ) (counts : List ℕ) (n before : ℕ) (eb : before ≡ jumpsAmong (itemsIn words store half flight n)) where
+module _ (home : Bool) (store : Store) (half : Bool) (len : ℕ) (counts : List ℕ) (n before : ℕ) (eb : before ≡ jumpsAmong (itemsIn words store half flight n)) where
   abbrev items : List Bytes
   items = itemsIn words store half flight len
 
-  from-there : meets len counts (drop n items) n before ≡ searchFrom items counts n
+  from-there : meets home len counts (drop n items) n before ≡ searchFrom home items counts n
   unfolding meets
   from-there = go (decLt len n)
     where
-      go : Dec (len < n) → meets len counts (drop n (itemsIn words store half flight len)) n before ≡ searchFrom (itemsIn words store half flight len) counts n
+      go : Dec (len < n) → meets home len counts (drop n (itemsIn words store half flight len)) n before ≡ searchFrom home (itemsIn words store half flight len) counts n
       go (no most) =
-          ap (meets len counts (drop n (itemsIn words store half flight len)) n) (eb ∙ ap jumpsAmong (sym (items-until store half flight len n (omega arith))))
-          ∙ ap (λ (size : ℕ). meets size counts (drop n (itemsIn words store half flight len)) n (jumpsAmong (take n (itemsIn words store half flight len)))) (sym (length-items words store half flight len))
+          ap (meets home len counts (drop n (itemsIn words store half flight len)) n) (eb ∙ ap jumpsAmong (sym (items-until store half flight len n (omega arith))))
+          ∙ ap (λ (size : ℕ). meets home size counts (drop n (itemsIn words store half flight len)) n (jumpsAmong (take n (itemsIn words store half flight len)))) (sym (length-items words store half flight len))
       go (yes past) = rw (drop-of-length-le (itemsIn words store half flight len) {i = n} (omega (arith, length-items words store half flight len)))
 
-  met-there : (met : Met) → met ≡ metFor (meets len counts (drop n items) n before) → met ≡ metFor (searchFrom items counts n)
+  met-there : (met : Met) → met ≡ metFor (meets home len counts (drop n items) n before) → met ≡ metFor (searchFrom home items counts n)
   met-there met e = e ∙ ap metFor from-there
 
 jumps-requires : tie.Need-jumps-requires

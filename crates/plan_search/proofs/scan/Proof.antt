@@ -24,41 +24,41 @@ use Rattle.plan_search.proofs.scan.Statement.{statement}
 use Rattle.plan_search.proofs.scan.Tie as tie
 
 -- what is met from item n on
-abbrev metFrom : Store → Bool → (len : ℕ) (counts : List ℕ) (n j : ℕ) → Met
-metFrom store half len counts n j = metFor (meets len counts (drop n (itemsIn words store half flight len)) n j)
+abbrev metFrom : Bool → Store → Bool → (len : ℕ) (counts : List ℕ) (n j : ℕ) → Met
+metFrom home store half len counts n j = metFor (meets home len counts (drop n (itemsIn words store half flight len)) n j)
 
-module _ (store : Store) (half : Bool) (len : ℕ) (counts : List ℕ) (n j : ℕ) (all : Met) (is : all ≡ metFrom store half len counts n j) where
-  module _ (below : n < len) (look : Look) (looked : look ≡ lookAs len counts n j (itemIn (itemAt words store half flight n))) where
-    one-step : all ≡ onwards look (metFrom store half len counts (n + 1) (j + 1))
+module _ (home : Bool) (store : Store) (half : Bool) (len : ℕ) (counts : List ℕ) (n j : ℕ) (all : Met) (is : all ≡ metFrom home store half len counts n j) where
+  module _ (below : n < len) (look : Look) (looked : look ≡ lookAs home len counts n j (itemIn (itemAt words store half flight n))) where
+    one-step : all ≡ onwards look (metFrom home store half len counts (n + 1) (j + 1))
     one-step =
         let items = itemsIn words store half flight len in
         is
-        ∙ ap (λ (l : List Bytes). metFor (meets len counts l n j)) (items-from store half flight len n below)
-        ∙ meets-one len counts (itemAt words store half flight n) (drop (suc n) items) n j
-        ∙ ap (λ (l : Look). onwards l (metFrom store half len counts (suc n) (suc j))) (sym looked)
-        ∙ ap (λ (k : ℕ). onwards look (metFrom store half len counts k (suc j))) (sym (add-one n))
-        ∙ ap (λ (k : ℕ). onwards look (metFrom store half len counts (n + 1) k)) (sym (add-one j))
+        ∙ ap (λ (l : List Bytes). metFor (meets home len counts l n j)) (items-from store half flight len n below)
+        ∙ meets-one home len counts (itemAt words store half flight n) (drop (suc n) items) n j
+        ∙ ap (λ (l : Look). onwards l (metFrom home store half len counts (suc n) (suc j))) (sym looked)
+        ∙ ap (λ (k : ℕ). onwards look (metFrom home store half len counts k (suc j))) (sym (add-one n))
+        ∙ ap (λ (k : ℕ). onwards look (metFrom home store half len counts (n + 1) k)) (sym (add-one j))
 
     met-here : (met : Met) → look ≡ Meets met → met ≡ all
-    met-here met e = sym (one-step ∙ ap (λ (l : Look). onwards l (metFrom store half len counts (n + 1) (j + 1))) e)
+    met-here met e = sym (one-step ∙ ap (λ (l : Look). onwards l (metFrom home store half len counts (n + 1) (j + 1))) e)
 
-    met-later : look ≡ PassedOver → all ≡ metFrom store half len counts (n + 1) (j + 1)
-    met-later e = one-step ∙ ap (λ (l : Look). onwards l (metFrom store half len counts (n + 1) (j + 1))) e
+    met-later : look ≡ PassedOver → all ≡ metFrom home store half len counts (n + 1) (j + 1)
+    met-later e = one-step ∙ ap (λ (l : Look). onwards l (metFrom home store half len counts (n + 1) (j + 1))) e
 
     count-fits : look ≡ PassedOver → j + 1 < 65536
-    count-fits e = let room = over-room len counts n j (itemIn (itemAt words store half flight n)) (sym looked ∙ e) in omega arith
+    count-fits e = let room = over-room home len counts n j (itemIn (itemAt words store half flight n)) (sym looked ∙ e) in omega arith
 
   at-end : len ≤ n → Ends Finished ≡ all
   unfolding meets
   at-end past =
       let items = itemsIn words store half flight len in
-      sym (is ∙ ap (λ (l : List Bytes). metFor (meets len counts l n j)) (drop-of-length-le items {i = n} (omega (arith, length-items words store half flight len))))
+      sym (is ∙ ap (λ (l : List Bytes). metFor (meets home len counts l n j)) (drop-of-length-le items {i = n} (omega (arith, length-items words store half flight len))))
 
 abbrev Inv-loop : tie.InvT-loop
-Inv-loop store half len counts from before n₀ j₀ n j = metFrom store half len counts from before ≡ metFrom store half len counts n j
+Inv-loop home store half len counts from before n₀ j₀ n j = metFrom home store half len counts from before ≡ metFrom home store half len counts n j
 
 abbrev μ-loop : tie.MeasureT-loop
-μ-loop store half len counts from before n₀ j₀ n j = len - n
+μ-loop home store half len counts from before n₀ j₀ n j = len - n
 
 loop-holds : tie.Need-loop-holds Inv-loop μ-loop
 loop-holds c = refl

@@ -32,19 +32,19 @@ returns c =
     let start = c .before .before .before .before in
     let read = c .before .before .before .whole-of in
     target-is (wholeOf (start .args .x)) (c .before .n .given .0 .0) (read .result) (c .before .n .given .1) (read .ensures) (search needs)
-    (start .args .count) (start .args .own) (omega arith)
+    (start .args .home) (start .args .count) (start .args .own) (omega arith)
 
 returns-2 : tie.Need-returns-2
 unfolding targetIn
 returns-2 c =
     let start = c .before .before in
-    ap (targetIn (start .before .args .count) (start .before .args .own)) (read-as (start .whole-of .ensures) (c .enum-told .given .1))
+    ap (targetIn (start .before .args .home) (start .before .args .count) (start .before .args .own)) (read-as (start .whole-of .ensures) (c .enum-told .given .1))
 
 returns-3 : tie.Need-returns-3
 unfolding targetIn
 returns-3 c =
     let start = c .before .before in
-    ap (targetIn (start .before .args .count) (start .before .args .own)) (read-as (start .whole-of .ensures) (c .enum-told2 .given .1))
+    ap (targetIn (start .before .args .home) (start .before .args .count) (start .before .args .own)) (read-as (start .whole-of .ensures) (c .enum-told2 .given .1))
 
 pub is-target-spec : {M : Type 1} → statement M
 is-target-spec =

@@ -65,8 +65,8 @@ is-nan-requires c κs = search needs
 whole-within-requires-2 : tie.Need-whole-within-requires-2
 whole-within-requires-2 c κs = search needs
 
-enum-told-5 : tie.Need-enum-told-5
-enum-told-5 c = search needs
+enum-known-rule-4 : tie.Need-enum-known-rule-4
+enum-known-rule-4 c = search needs
 
 is-target-requires : tie.Need-is-target-requires
 is-target-requires c κs = search needs
@@ -122,8 +122,8 @@ returns-7 c =
 returns-8 : tie.Need-returns-8
 unfolding paramOk
 returns-8 c =
-    let a = c .before .before .before .args in
-    c .is-target .ensures ∙ sym (by-rule (a .count) (a .own) (a .x) (c .before .enum-told5 .given .1))
+    let a = c .before .before .before .before .args in
+    c .is-target .ensures ∙ sym (by-rule (a .count) (a .own) (a .x) (c .before .before .rule4 .given .1))
 
 pub param-ok-spec : {M : Type 1} → statement M
 param-ok-spec =
@@ -143,7 +143,7 @@ param-ok-spec =
     enum-known-rule-3
     is-nan-requires
     whole-within-requires-2
-    enum-told-5
+    enum-known-rule-4
     is-target-requires
     returns
     returns-2

@@ -13,18 +13,18 @@ use mir.Val.{hasKey}
 use types.Run.{OneOf, hit}
 use borrow.Author.Needs.{needs}
 use borrow.Author.Tests.{ne-eqb, ltb-true, leb-true}
-use Rattle.rules.specs.Items.{Row, commands, returnHome, delay, distance, yaw, jump, changeSpeed, setServo, returnPoint}
+use Rattle.rules.specs.Items.{Row, commands, waypoint, returnHome, delay, distance, yaw, jump, changeSpeed, setServo, returnPoint}
 use Rattle.item_rules.specs.Table.{lookup, lookedUp, noRow}
 use Rattle.item_rules.specs.declared.table.Listing.{Listing}
 use Rattle.item_rules.proofs.table.row_of.Statement.{statement}
 use Rattle.item_rules.proofs.table.row_of.Tie as tie
 
 -- looking the command n up finds what l says
-abbrev Agrees : Listing → ℕ → Type 0
-Agrees l n = lookedUp n l ≡ lookup n commands
+abbrev Agrees : Bool → Listing → ℕ → Type 0
+Agrees home l n = lookedUp n l ≡ lookup n (commands home)
 
-at : {l m : Listing} {n k : ℕ} → m ≡ l → n ≡ k → Agrees l k → Agrees m n
-at {l} {m} {n} {k} e h a = subst (λ (x : Listing). Agrees x n) (sym e) (subst (λ (x : ℕ). Agrees l x) (sym h) a)
+at : (home : Bool) {l m : Listing} {n k : ℕ} → m ≡ l → n ≡ k → Agrees home l k → Agrees home m n
+at home {l} {m} {n} {k} e h a = subst (λ (x : Listing). Agrees home x n) (sym e) (subst (λ (x : ℕ). Agrees home l x) (sym h) a)
 
 -- P at each of w numbers from k on
 abbrev Along : (ℕ → Type 0) → ℕ → ℕ → Type 0
@@ -36,15 +36,15 @@ among P n k zero l h a = absurd (omega arith)
 among P n k (suc w) l h a =
     ⊎-elim (λ e. subst P e (a .0)) (λ g. among P n (suc k) w g (omega arith) (a .1)) (eq-or-lt-of-le l)
 
-within : {l m : Listing} {n : ℕ} (k w : ℕ) → m ≡ l → k ≤ n → n < k + w → Along (Agrees l) k w → Agrees m n
-within {l} {m} {n} k w e low high a = subst (λ (x : Listing). Agrees x n) (sym e) (among (Agrees l) n k w low high a)
+within : (home : Bool) {l m : Listing} {n : ℕ} (k w : ℕ) → m ≡ l → k ≤ n → n < k + w → Along (Agrees home l) k w → Agrees home m n
+within home {l} {m} {n} k w e low high a = subst (λ (x : Listing). Agrees home x n) (sym e) (among (Agrees home l) n k w low high a)
 
 -- ---- a command that is none of the match's single ones
 
 -- the single commands of its arms, the last arm first
 abbrev singles : List (List ℕ)
 singles =
-    (5100 ∷ []) ∷ (returnPoint ∷ []) ∷ (setServo ∷ []) ∷ (changeSpeed ∷ []) ∷ (jump ∷ []) ∷ (yaw ∷ []) ∷ (delay ∷ distance ∷ []) ∷ (returnHome ∷ []) ∷ (17 ∷ 31 ∷ []) ∷ (16 ∷ []) ∷ []
+    (5100 ∷ []) ∷ (returnPoint ∷ []) ∷ (setServo ∷ []) ∷ (changeSpeed ∷ []) ∷ (jump ∷ []) ∷ (yaw ∷ []) ∷ (delay ∷ distance ∷ []) ∷ (returnHome ∷ []) ∷ (17 ∷ 31 ∷ []) ∷ (waypoint ∷ []) ∷ []
 
 -- n has missed each of them
 abbrev Missed : List (List ℕ) → ℕ → Type 0
@@ -132,71 +132,71 @@ listed-as-requires-12 c κs = search needs
 
 returns : tie.Need-returns
 unfolding lookup
-returns c = at (c .listed-as .ensures) (c .before .match .keys3) refl
+returns c = at _ (c .listed-as .ensures) (c .before .match .keys3) refl
 
 returns-2 : tie.Need-returns-2
 unfolding lookup
-returns-2 c = ⊎-elim (λ h. at (c .listed-as2 .ensures) h refl) (λ h. at (c .listed-as2 .ensures) h refl) (c .before .match .keys4)
+returns-2 c = ⊎-elim (λ h. at _ (c .listed-as2 .ensures) h refl) (λ h. at _ (c .listed-as2 .ensures) h refl) (c .before .match .keys4)
 
 returns-3 : tie.Need-returns-3
 unfolding lookup
-returns-3 c = at (c .listed-as3 .ensures) (c .before .match .keys5) refl
+returns-3 c = at _ (c .listed-as3 .ensures) (c .before .match .keys5) refl
 
 returns-4 : tie.Need-returns-4
 unfolding lookup
-returns-4 c = at (c .listed-as4 .ensures) (c .before .match .keys6) refl
+returns-4 c = at _ (c .listed-as4 .ensures) (c .before .match .keys6) refl
 
 returns-5 : tie.Need-returns-5
 unfolding lookup
-returns-5 c = at (c .listed-as5 .ensures) (c .before .match .keys7) refl
+returns-5 c = at _ (c .listed-as5 .ensures) (c .before .match .keys7) refl
 
 returns-6 : tie.Need-returns-6
 unfolding lookup
-returns-6 c = at (c .listed-as6 .ensures) (c .before .match .keys8) refl
+returns-6 c = at _ (c .listed-as6 .ensures) (c .before .match .keys8) refl
 
 returns-7 : tie.Need-returns-7
 unfolding lookup
-returns-7 c = at (c .listed-as7 .ensures) (c .before .match .keys9) refl
+returns-7 c = at _ (c .listed-as7 .ensures) (c .before .match .keys9) refl
 
 returns-8 : tie.Need-returns-8
 unfolding lookup
-returns-8 c = at (c .listed-as8 .ensures) (c .before .match .keys10) refl
+returns-8 c = at _ (c .listed-as8 .ensures) (c .before .match .keys10) refl
 
 returns-9 : tie.Need-returns-9
 unfolding lookup
-returns-9 c = within 5001 2 (c .listed-as9 .ensures) (past (c .before .before .if4 .left) (c .before .before .before .before .before .before .match .rest) tt) (c .before .if5 .taken) (refl, (refl, tt))
+returns-9 c = within _ 5001 2 (c .listed-as9 .ensures) (past (c .before .before .if4 .left) (c .before .before .before .before .before .before .match .rest) tt) (c .before .if5 .taken) (refl, (refl, tt))
 
 returns-10 : tie.Need-returns-10
 unfolding lookup
-returns-10 c = within 5003 2 (c .listed-as10 .ensures) (c .before .before .if5 .left) (c .before .if6 .taken) (refl, (refl, tt))
+returns-10 c = within _ 5003 2 (c .listed-as10 .ensures) (c .before .before .if5 .left) (c .before .if6 .taken) (refl, (refl, tt))
 
 returns-11 : tie.Need-returns-11
 unfolding lookup
-returns-11 c = unlisted (c .before .before .args .command) 0 16 (omega arith) (c .if1 .taken) (c .before .match .rest) commands tt
+returns-11 c = unlisted (c .before .before .args .command) 0 16 (omega arith) (c .if1 .taken) (c .before .match .rest) (commands (c .before .before .args .home)) tt
 
 returns-12 : tie.Need-returns-12
 unfolding lookup
 returns-12 c =
     let rest = c .before .before .before .before .match .rest in
-    unlisted (c .before .before .before .before .before .args .command) 23 5000 (c .before .if3 .left) (c .if4 .taken) rest commands tt
+    unlisted (c .before .before .before .before .before .args .command) 23 5000 (c .before .if3 .left) (c .if4 .taken) rest (commands (c .before .before .before .before .before .args .home)) tt
 
 returns-13 : tie.Need-returns-13
 unfolding lookup
 returns-13 c =
     let rest = c .before .before .before .before .before .before .match .rest in
-    unlisted (c .before .before .before .before .before .before .before .args .command) 5005 65536 (c .if6 .left) (omega arith) rest commands tt
+    unlisted (c .before .before .before .before .before .before .before .args .command) 5005 65536 (c .if6 .left) (omega arith) rest (commands (c .before .before .before .before .before .before .before .args .home)) tt
 
 returns-14 : tie.Need-returns-14
 unfolding lookup
 returns-14 c =
-    ⊎-elim (λ k. ⊎-elim (λ h. at (c .listed-as11 .ensures) h refl) (λ h. at (c .listed-as11 .ensures) h refl) (k .keys2))
-    (λ k. within 21 2 (c .listed-as11 .ensures) (past (k .2 .left) (k .0 .rest) tt) (k .3 .taken) (refl, (refl, tt))) (c .before .match .came)
+    ⊎-elim (λ k. ⊎-elim (λ h. at _ (c .listed-as11 .ensures) h refl) (λ h. at _ (c .listed-as11 .ensures) h refl) (k .keys2))
+    (λ k. within _ 21 2 (c .listed-as11 .ensures) (past (k .2 .left) (k .0 .rest) tt) (k .3 .taken) (refl, (refl, tt))) (c .before .match .came)
 
 returns-15 : tie.Need-returns-15
 unfolding lookup
 returns-15 c =
-    ⊎-elim (λ k. at (c .listed-as12 .ensures) (k .keys1) refl)
-    (λ k. within 18 2 (c .listed-as12 .ensures) (past (past (k .1 .left) (k .0 .rest) tt) (k .0 .rest) tt) (k .2 .taken) (refl, (refl, tt))) (c .before .match .came)
+    ⊎-elim (λ k. at _ (c .listed-as12 .ensures) (k .keys1) refl)
+    (λ k. within _ 18 2 (c .listed-as12 .ensures) (past (past (k .1 .left) (k .0 .rest) tt) (k .0 .rest) tt) (k .2 .taken) (refl, (refl, tt))) (c .before .match .came)
 
 pub row-of-spec : {M : Type 1} → statement M
 row-of-spec =

@@ -31,50 +31,50 @@ no-jump (Ends c) tag j target up e = let z : _≡_ {A = ℕ} 0 1 = cc in omega a
 no-jump (Stands n c) tag j target up e = let z : _≡_ {A = ℕ} 0 1 = cc in omega arith
 no-jump (Follows k t b) tag j target up e = ⊎-elim (λ h. omega arith) (λ h. omega arith) tag
 
-module _ (store : Store) (half : Bool) (len : ℕ) (runs : List ℕ) (n left : ℕ) (all : rules.Found) (is : all ≡ rules.search left (itemsIn words store half flight len) runs n)
-    (met : Met) (meets : met ≡ metFor (searchFrom (itemsIn words store half flight len) runs n)) where
+module _ (home : Bool) (store : Store) (half : Bool) (len : ℕ) (runs : List ℕ) (n left : ℕ) (all : rules.Found) (is : all ≡ rules.search home left (itemsIn words store half flight len) runs n)
+    (met : Met) (meets : met ≡ metFor (searchFrom home (itemsIn words store half flight len) runs n)) where
   abbrev items : List Bytes
   items = itemsIn words store half flight len
 
   module _ (some : 0 < left) where
-    one-less : all ≡ rules.search (suc (left - 1)) items runs n
-    one-less = let e : left ≡ suc (left - 1) = omega arith in is ∙ ap (λ (k : ℕ). rules.search k items runs n) e
+    one-less : all ≡ rules.search home (suc (left - 1)) items runs n
+    one-less = let e : left ≡ suc (left - 1) = omega arith in is ∙ ap (λ (k : ℕ). rules.search home k items runs n) e
 
     ends-sooner : (r : Found) → OneOf (0 ∷ 1 ∷ []) (tagOf the-type met) → foundOf r ≡ settledAs met runs → foundOf r ≡ all
-    ends-sooner r tag er = er ∙ settles-sooner (left - 1) items runs n met meets (no-jump met tag) ∙ sym one-less
+    ends-sooner r tag er = er ∙ settles-sooner home (left - 1) items runs n met meets (no-jump met tag) ∙ sym one-less
 
-    goes-on : (j target : ℕ) (up : Bool) (after : List ℕ) → met ≡ Follows j target up → after ≡ countedAs runs j up → all ≡ rules.search (left - 1) items after target
+    goes-on : (j target : ℕ) (up : Bool) (after : List ℕ) → met ≡ Follows j target up → after ≡ countedAs runs j up → all ≡ rules.search home (left - 1) items after target
     goes-on j target up after em ea =
         one-less
-        ∙ follows-on (left - 1) items runs n met j target up meets em
-        ∙ ap (λ (l : List ℕ). rules.search (left - 1) items l target) (sym ea)
+        ∙ follows-on home (left - 1) items runs n met j target up meets em
+        ∙ ap (λ (l : List ℕ). rules.search home (left - 1) items l target) (sym ea)
 
   ends-last : (r : Found) → left ≤ 0 → foundOf r ≡ settledAs met runs → foundOf r ≡ all
   ends-last r none er =
       let e : left ≡ zero = omega arith in
-      er ∙ settles-last items runs n met meets ∙ sym (is ∙ ap (λ (k : ℕ). rules.search k items runs n) e)
+      er ∙ settles-last home items runs n met meets ∙ sym (is ∙ ap (λ (k : ℕ). rules.search home k items runs n) e)
 
-followed : (store : Store) (half : Bool) (len : ℕ) (runs : List ℕ) (n : ℕ) (met : Met) → met ≡ metFor (searchFrom (itemsIn words store half flight len) runs n)
+followed : (home : Bool) (store : Store) (half : Bool) (len : ℕ) (runs : List ℕ) (n : ℕ) (met : Met) → met ≡ metFor (searchFrom home (itemsIn words store half flight len) runs n)
     → (j target : ℕ) (up : Bool) → met ≡ Follows j target up → Followed len runs j target up
-followed store half len runs n met meets j target up em =
+followed home store half len runs n met meets j target up em =
     let items = itemsIn words store half flight len in
     subst (λ (size : ℕ). Followed size runs j target up) (length-items words store half flight len)
-    (follows-known (length items) runs (drop n items) n (jumpsAmong (take n items)) (sym meets ∙ em))
+    (follows-known home (length items) runs (drop n items) n (jumpsAmong (take n items)) (sym meets ∙ em))
 
 -- the search follows as many jumps as the loop begins with
-begins : (store : Store) (half : Bool) (len : ℕ) (runs : List ℕ) (n left : ℕ) → left ≡ maxFollowed
-    → rules.search maxFollowed (itemsIn words store half flight len) runs n ≡ rules.search left (itemsIn words store half flight len) runs n
-begins store half len runs n left e = ap (λ (k : ℕ). rules.search k (itemsIn words store half flight len) runs n) (sym e)
+begins : (home : Bool) (store : Store) (half : Bool) (len : ℕ) (runs : List ℕ) (n left : ℕ) → left ≡ maxFollowed
+    → rules.search home maxFollowed (itemsIn words store half flight len) runs n ≡ rules.search home left (itemsIn words store half flight len) runs n
+begins home store half len runs n left e = ap (λ (k : ℕ). rules.search home k (itemsIn words store half flight len) runs n) (sym e)
 
 abbrev Inv-loop : tie.InvT-loop
-Inv-loop store half len from runs₀ n₀ left₀ runs n left =
-    (n ≤ sizeOf flight) × (rules.search maxFollowed (itemsIn words store half flight len) runs₀ from ≡ rules.search left (itemsIn words store half flight len) runs n)
+Inv-loop home store half len from runs₀ n₀ left₀ runs n left =
+    (n ≤ sizeOf flight) × (rules.search home maxFollowed (itemsIn words store half flight len) runs₀ from ≡ rules.search home left (itemsIn words store half flight len) runs n)
 
 abbrev μ-loop : tie.MeasureT-loop
-μ-loop store half len from runs₀ n₀ left₀ runs n left = left
+μ-loop home store half len from runs₀ n₀ left₀ runs n left = left
 
 loop-holds : tie.Need-loop-holds Inv-loop μ-loop
-loop-holds c = (search needs, begins _ _ _ _ _ _ refl)
+loop-holds c = (search needs, begins _ _ _ _ _ _ _ refl)
 
 meet-requires : tie.Need-meet-requires Inv-loop μ-loop
 meet-requires c κs = search needs
@@ -89,7 +89,7 @@ returns : tie.Need-returns Inv-loop μ-loop
 returns c =
     let m = c .before .before in
     let l = m .before .before in
-    ends-sooner _ _ _ _ _ _ _ (l .loop .inv .1) _ (m .meet .ensures) (m .before .loop-test .taken) _ (c .before .match .keys2) (c .settled .ensures)
+    ends-sooner _ _ _ _ _ _ _ _ (l .loop .inv .1) _ (m .meet .ensures) (m .before .loop-test .taken) _ (c .before .match .keys2) (c .settled .ensures)
 
 counted-requires : tie.Need-counted-requires Inv-loop μ-loop
 counted-requires c κs =
@@ -97,7 +97,7 @@ counted-requires c κs =
     let l = c .before .before .before .before .before .loop in
     let m = c .before .before .before .meet in
     let jump = c .before .met .given in
-    let f = followed (a .store .now) (a .half) (a .len) (l .runs) (l .n) (m .result) (m .ensures) (jump .0 .0) (jump .0 .1 .0) (jump .0 .1 .1 .0) (jump .1) in
+    let f = followed (a .home) (a .store .now) (a .half) (a .len) (l .runs) (l .n) (m .result) (m .ensures) (jump .0 .0) (jump .0 .1 .0) (jump .0 .1 .1 .0) (jump .1) in
     (f .room, f .runs)
 
 sub-left : tie.Need-sub-left Inv-loop μ-loop
@@ -112,9 +112,9 @@ loop-again c =
     let l = c .before .before .before .before .before .before .loop in
     let m = c .before .before .before .before .meet in
     let jump = c .before .before .met .given in
-    let f = followed (a .store .now) (a .half) (a .len) (l .runs) (l .n) (m .result) (m .ensures) (jump .0 .0) (jump .0 .1 .0) (jump .0 .1 .1 .0) (jump .1) in (
+    let f = followed (a .home) (a .store .now) (a .half) (a .len) (l .runs) (l .n) (m .result) (m .ensures) (jump .0 .0) (jump .0 .1 .0) (jump .0 .1 .1 .0) (jump .1) in (
       omega (arith, f .inside),
-      goes-on _ _ _ _ _ _ _ (l .inv .1) _ (m .ensures) (c .before .before .before .before .before .loop-test .taken) _ _ _ _ (jump .1) (c .counted .ensures),
+      goes-on _ _ _ _ _ _ _ _ (l .inv .1) _ (m .ensures) (c .before .before .before .before .before .loop-test .taken) _ _ _ _ (jump .1) (c .counted .ensures),
     )
 
 meet-requires-2 : tie.Need-meet-requires-2 Inv-loop μ-loop
@@ -126,7 +126,7 @@ settled-requires-2 c κs = search needs
 returns-2 : tie.Need-returns-2 Inv-loop μ-loop
 returns-2 c =
     let m = c .before in
-    ends-last _ _ _ _ _ _ _ (m .before .before .loop .inv .1) _ (m .meet2 .ensures) _ (m .before .loop-test .left) (c .settled2 .ensures)
+    ends-last _ _ _ _ _ _ _ _ (m .before .before .loop .inv .1) _ (m .meet2 .ensures) _ (m .before .loop-test .left) (c .settled2 .ensures)
 
 pub find-spec : {M : Type 1} → statement M
 find-spec =
