@@ -3,7 +3,7 @@
 use Prim.Native.Nat.{ℕ}
 use mathlib.Core.Path.{_≡_, refl, sym}
 use mathlib.Core.List.{List}
-use mathlib.Core.Bool.{true, true≢false}
+use mathlib.Core.Bool.{Bool, true, true≢false}
 use lib.Dec.{eqb}
 use borrow.Author.Tests.{eqb-true}
 use Rattle.rules.specs.Payload.{Bytes}
@@ -57,10 +57,10 @@ item-left id p read n38 n41 n43 n44 n45 n47 n51 =
     P m = isRead m ≡ true → id ≡ itemIntId
 
 -- every message but SET_CURRENT and CLEAR_ALL speaks of the plan of its kind
-pub of-one-plan : (ps : List Plan) (current : ℕ) (s : Store) (from : Station) (now kind id : ℕ) (p : Bytes) → (id ≡ setCurrentId → ⊥) → (id ≡ clearAllId → ⊥)
-    → knownDone words ps current s from now kind (requestOf (decode id p)) ≡ planDone words (planAmong ps kind) current s from now kind (requestOf (decode id p))
+pub of-one-plan : (home : Bool) (ps : List Plan) (current : ℕ) (s : Store) (from : Station) (now kind id : ℕ) (p : Bytes) → (id ≡ setCurrentId → ⊥) → (id ≡ clearAllId → ⊥)
+    → knownDone words home ps current s from now kind (requestOf (decode id p)) ≡ planDone words home (planAmong ps kind) current s from now kind (requestOf (decode id p))
 unfolding decode messageOf knownDone
-of-one-plan ps current s from now kind id p n41 n45 =
+of-one-plan home ps current s from now kind id p n41 n45 =
     either P (eqb id partialListId) (λ e. refl) (λ e.
     either P (eqb id setCurrentId) (λ e. absurd (n41 (eqb-true id setCurrentId e))) (λ e.
     either P (eqb id currentId) (λ e. refl) (λ e.
@@ -73,4 +73,4 @@ of-one-plan ps current s from now kind id p n41 n45 =
     either P (eqb id statustextId) (λ e. refl) (λ e. refl))))))))))
   where
     P : Message → Type 0
-    P m = knownDone words ps current s from now kind (requestOf m) ≡ planDone words (planAmong ps kind) current s from now kind (requestOf m)
+    P m = knownDone words home ps current s from now kind (requestOf m) ≡ planDone words home (planAmong ps kind) current s from now kind (requestOf m)

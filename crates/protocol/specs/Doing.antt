@@ -9,6 +9,7 @@ use lib.Dec.{eqb}
 use Rattle.rules.specs.Limits.{flight, fence, rally, everyKind, sizeOf, accepted, unsupported, denied}
 use Rattle.rules.specs.Payload.{Bytes}
 use Rattle.rules.specs.Messages.{Station, ack}
+use Rattle.rules.specs.Model.{flown}
 use Rattle.rules.specs.Calls.{Request, chooses, asksList, announces, changes, clears, acknowledges, asksItem, brings}
 use Rattle.rules.specs.Step.{Answer, silent, says, covered, kindOk}
 use Rattle.places.specs.Forms.{Store, Form}
@@ -67,30 +68,30 @@ clearDone ps s from kind =
 -- ---- every message of a kind that it may have
 
 -- the messages that speak of the plan of a kind; the others leave it
-unfoldable pub planDone : Form → Plan → (current : ℕ) → Store → Station → (now kind : ℕ) → Request → Done
-planDone F p current s from now kind (chooses seq) = does Nothing s silent
-planDone F p current s from now kind asksList = does Nothing s (listAnswer p from kind)
-planDone F p current s from now kind (announces n) = turns s kind from (countTurned p from now n (sizeOf kind))
-planDone F p current s from now kind (changes start end) = turns s kind from (partTurned p from now start end)
-planDone F p current s from now kind clears = does Nothing s silent
-planDone F p current s from now kind (acknowledges result) = turns s kind from (ackTurned p from result)
-planDone F p current s from now kind (asksItem seq) = does Nothing s (requestAnswer F p current s from kind seq)
-planDone F p current s from now kind (brings item) = itemTurns kind from (itemTurned F s kind (p .upload) p from now item)
+unfoldable pub planDone : Form → (home : Bool) → Plan → (current : ℕ) → Store → Station → (now kind : ℕ) → Request → Done
+planDone F home p current s from now kind (chooses seq) = does Nothing s silent
+planDone F home p current s from now kind asksList = does Nothing s (listAnswer p from kind)
+planDone F home p current s from now kind (announces n) = turns s kind from (countTurned p from now n (sizeOf kind))
+planDone F home p current s from now kind (changes start end) = turns s kind from (partTurned p from now start end)
+planDone F home p current s from now kind clears = does Nothing s silent
+planDone F home p current s from now kind (acknowledges result) = turns s kind from (ackTurned p from result)
+planDone F home p current s from now kind (asksItem seq) = does Nothing s (requestAnswer F p current s from kind seq)
+planDone F home p current s from now kind (brings item) = itemTurns kind from (itemTurned F home s kind (p .upload) p from now item)
 
 -- SET_CURRENT speaks of the flight plan and of all numbers, CLEAR_ALL of all plans
-unfoldable pub knownDone : Form → List Plan → (current : ℕ) → Store → Station → (now kind : ℕ) → Request → Done
-knownDone F ps current s from now kind (chooses seq) =
-    does (chooseEffect (planAmong ps flight) seq) s (chooseAnswer (planAmong ps flight) (planAmong ps fence) (planAmong ps rally) seq)
-knownDone F ps current s from now kind asksList = planDone F (planAmong ps kind) current s from now kind asksList
-knownDone F ps current s from now kind (announces n) = planDone F (planAmong ps kind) current s from now kind (announces n)
-knownDone F ps current s from now kind (changes start end) = planDone F (planAmong ps kind) current s from now kind (changes start end)
-knownDone F ps current s from now kind clears = clearDone ps s from kind
-knownDone F ps current s from now kind (acknowledges result) = planDone F (planAmong ps kind) current s from now kind (acknowledges result)
-knownDone F ps current s from now kind (asksItem seq) = planDone F (planAmong ps kind) current s from now kind (asksItem seq)
-knownDone F ps current s from now kind (brings item) = planDone F (planAmong ps kind) current s from now kind (brings item)
+unfoldable pub knownDone : Form → (home : Bool) → List Plan → (current : ℕ) → Store → Station → (now kind : ℕ) → Request → Done
+knownDone F home ps current s from now kind (chooses seq) =
+    does (chooseEffect (planAmong ps flight) (flown home seq)) s (chooseAnswer (planAmong ps flight) (planAmong ps fence) (planAmong ps rally) (flown home seq))
+knownDone F home ps current s from now kind asksList = planDone F home (planAmong ps kind) current s from now kind asksList
+knownDone F home ps current s from now kind (announces n) = planDone F home (planAmong ps kind) current s from now kind (announces n)
+knownDone F home ps current s from now kind (changes start end) = planDone F home (planAmong ps kind) current s from now kind (changes start end)
+knownDone F home ps current s from now kind clears = clearDone ps s from kind
+knownDone F home ps current s from now kind (acknowledges result) = planDone F home (planAmong ps kind) current s from now kind (acknowledges result)
+knownDone F home ps current s from now kind (asksItem seq) = planDone F home (planAmong ps kind) current s from now kind (asksItem seq)
+knownDone F home ps current s from now kind (brings item) = planDone F home (planAmong ps kind) current s from now kind (brings item)
 
-unfoldable pub messageDone : Form → List Plan → (current : ℕ) → Store → Station → (now kind : ℕ) → Request → Done
-messageDone F ps current s from now kind r = cond (kindOk kind r) (knownDone F ps current s from now kind r) (does Nothing s (says (ack from unsupported kind 0)))
+unfoldable pub messageDone : Form → (home : Bool) → List Plan → (current : ℕ) → Store → Station → (now kind : ℕ) → Request → Done
+messageDone F home ps current s from now kind r = cond (kindOk kind r) (knownDone F home ps current s from now kind r) (does Nothing s (says (ack from unsupported kind 0)))
 
 unfoldable pub timerDone : Plan → Store → (now kind : ℕ) → Done
 timerDone p s now kind = turns s kind (stationOf (p .upload)) (timerTurned (p .upload) p now)

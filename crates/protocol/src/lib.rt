@@ -3,7 +3,7 @@
 mod clears;
 
 ghost use mathlib.Core.Path.{_≡_};
-ghost use mathlib.Core.Bool.{true};
+ghost use mathlib.Core.Bool.{Bool, true};
 ghost use mathlib.Core.List.{[], _∷_};
 ghost use Prim.Native.Nat.{ℕ, _≤_};
 ghost use lib.ListN.{length};
@@ -31,6 +31,7 @@ use limits::RALLY;
 use limits::UNSUPPORTED;
 use places::size_of;
 use plan::Plan;
+use plan::flown;
 use taking::take_item;
 use upload::turns::on_ack;
 use upload::turns::on_count;
@@ -59,7 +60,7 @@ fn kind_ok(id: u32, kind: u8) -> bool
 
 // ACK is never answered: no reply buffer is lent to it. One of a kind above the last does nothing.
 fn acknowledge(plan: Plan, kind: u8, result: u8, system: u8, component: u8) -> Handled
-    ensures { λ r. ⌜ ((p q s : Plan) (current : ℕ) (store : Store) (clock : ℕ) (b : Bytes) → IsPlanOf kind plan p q s → DoneBy (knownDone words (p ∷ q ∷ s ∷ []) current store (station system component) clock kind (acknowledges result)) store b b r) ⌝ }
+    ensures { λ r. ⌜ ((home : Bool) (p q s : Plan) (current : ℕ) (store : Store) (clock : ℕ) (b : Bytes) → IsPlanOf kind plan p q s → DoneBy (knownDone words home (p ∷ q ∷ s ∷ []) current store (station system component) clock kind (acknowledges result)) store b b r) ⌝ }
 {
     if RALLY < kind {
         return only(silent());
@@ -72,6 +73,7 @@ fn acknowledge(plan: Plan, kind: u8, result: u8, system: u8, component: u8) -> H
 
 // The messages that speak of the plan of a kind: MISSION_WRITE_PARTIAL_LIST, REQUEST_LIST, COUNT, REQUEST_INT and ITEM_INT.
 fn turn(
+    home: bool,
     plan: Plan,
     current: u16,
     store: &mut [u32],
@@ -85,7 +87,7 @@ fn turn(
 ) -> Handled
     requires { ⌜ (kind ≤ rally) × PlanRanges kind plan × (storeWords ≤ length (now store)) × (replyBytesMin ≤ length (now reply)) ⌝ }
     requires { ⌜ (isRead (decode id (now own)) ≡ true) × (id ≡ setCurrentId → ⊥) × (id ≡ clearAllId → ⊥) × (id ≡ ackId → ⊥) ⌝ }
-    ensures { λ r. ⌜ DoneBy (planDone words plan current (now (store .entry)) (station system component) clock kind (requestOf (decode id (now (own .entry))))) (now (store .exit)) (now (reply .entry)) (now (reply .exit)) r ⌝ }
+    ensures { λ r. ⌜ DoneBy (planDone words home plan current (now (store .entry)) (station system component) clock kind (requestOf (decode id (now (own .entry))))) (now (store .exit)) (now (reply .entry)) (now (reply .exit)) r ⌝ }
 {
     match id {
         REQUEST_LIST_ID => only(shown::list(plan, kind, system, component, reply)),
@@ -107,14 +109,15 @@ fn turn(
         _ => {
             let m = wire::read_item_int(own);
             let item = m.item;
-            let turned = take_item(plan, store, kind, system, component, clock, item);
+            let turned = take_item(home, plan, store, kind, system, component, clock, item);
             told(turned, kind, system, component, reply)
         }
     }
 }
 
-// A message from a station, with the plan of its kind, where there is such a kind, beside the plans of all.
+// A message from a station, with the plan of its kind, where there is such a kind, beside the plans of all. Item 0 of the flight plan may be home.
 pub fn answer(
+    home: bool,
     plan: Plan,
     flight: Plan,
     fence: Plan,
@@ -130,7 +133,7 @@ pub fn answer(
     clock: u32,
 ) -> Handled
     requires { ⌜ IsPlanOf kind plan flight fence rally × (plansRanged flight fence rally ≡ true) × (storeWords ≤ length (now store)) × (replyBytesMin ≤ length (now reply)) × (isRead (decode id (now own)) ≡ true) ⌝ }
-    ensures { λ r. ⌜ DoneBy (messageDone words (flight ∷ fence ∷ rally ∷ []) current (now (store .entry)) (station system component) clock kind (requestOf (decode id (now (own .entry))))) (now (store .exit)) (now (reply .entry)) (now (reply .exit)) r ⌝ }
+    ensures { λ r. ⌜ DoneBy (messageDone words home (flight ∷ fence ∷ rally ∷ []) current (now (store .entry)) (station system component) clock kind (requestOf (decode id (now (own .entry))))) (now (store .exit)) (now (reply .entry)) (now (reply .exit)) r ⌝ }
 {
     if !kind_ok(id, kind) {
         return only(ack(UNSUPPORTED, kind, 0, system, component, reply));
@@ -138,7 +141,7 @@ pub fn answer(
     match id {
         SET_CURRENT_ID => {
             let m = wire::read_set_current(own);
-            shown::set_current(flight, fence, rally, m.seq, reply)
+            shown::set_current(flight, fence, rally, flown(home, m.seq), reply)
         }
         CLEAR_ALL_ID => clear(plan, flight, fence, rally, kind, system, component, reply),
         ACK_ID => {
@@ -146,6 +149,7 @@ pub fn answer(
             acknowledge(plan, kind, m.result, system, component)
         }
         _ => turn(
+            home,
             plan,
             current,
             store,

@@ -30,7 +30,7 @@ abbrev pub afterItem : State → (kind : ℕ) → Station → TurnAndStore → A
 afterItem st kind from t = after st kind (itemTurns kind from t)
 
 abbrev pub afterMessage : Form → State → Store → Station → (now kind : ℕ) → Request → After
-afterMessage F st s from now kind r = after st kind (messageDone F (st .plans) (st .current) s from now kind r)
+afterMessage F st s from now kind r = after st kind (messageDone F (st .home) (st .plans) (st .current) s from now kind r)
 
 abbrev pub afterTimer : State → Store → (now kind : ℕ) → After
 afterTimer st s now kind = after st kind (timerDone (planOf st kind) s now kind)

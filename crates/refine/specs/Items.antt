@@ -276,13 +276,13 @@ module _ (F : Form) (lawful : Lawful F) where
             either₂ Both (not (eqb (r .next) (r .last))) (λ t. valid-more) (λ last. at-last (eqb-true (r .next) (r .last) (not-false (eqb (r .next) (r .last)) last)))
 
     module _ (ofKind : item .kind ≡ k) (three : length (st .plans) ≡ length kinds) (from : Station) (now : ℕ) where
-      item-runs : Agree F (afterItem st k from (itemTurned F s k (Running r) (planOf st k) from now item)) (onItem (running run) (viewIn F st s) from now k item)
-      unfolding itemTurned onItem
+      item-runs : Agree F (afterItem st k from (itemTurned F (st .home) s k (Running r) (planOf st k) from now item)) (onItem (running run) (viewIn F st s) from now k item)
+      unfolding itemTurned onItem viewIn
       item-runs =
           either₂ Both′ (not (sameStation from (stationIn r))) (λ t. kept F st s three k known from (Ack denied 0) (acks from denied k) refl)
           (λ t. either₂ Both′ (not (eqb (item .seq) (r .next))) (λ t. kept F st s three k known from (Ask (r .next)) (requests from (r .next) k) refl)
-          (λ turn. either₂ Both′ (not (eqb (itemVerdict F s k (planOf st k) r item) accepted))
-          (λ t. ends F st s three k known from (Ack (itemVerdict F s k (planOf st k) r item) 0) (acks from (itemVerdict F s k (planOf st k) r item) k) refl)
+          (λ turn. either₂ Both′ (not (eqb (itemVerdict F (st .home) s k (planOf st k) r item) accepted))
+          (λ t. ends F st s three k known from (Ack (itemVerdict F (st .home) s k (planOf st k) r item) 0) (acks from (itemVerdict F (st .home) s k (planOf st k) r item) k) refl)
           (λ t. valid-agrees ofKind (eqb-true (item .seq) (r .next) (not-false (eqb (item .seq) (r .next)) turn)) three from now)))
         where
           Both′ : TurnAndStore → Stepped → Type 0
@@ -292,11 +292,11 @@ module _ (F : Form) (lawful : Lawful F) where
   pub item-agrees :
       (st : State) (s : Store) → length (st .plans) ≡ length kinds → least F ≤ length s → inRange (viewIn F st s) ≡ true → (k : ℕ) → isKnown k ≡ true
       → (from : Station) (now : ℕ) (item : Item) → item .kind ≡ k
-      → Agree F (afterItem st k from (itemTurned F s k (planOf st k .upload) (planOf st k) from now item)) (onItem (model.uploadOf (viewIn F st s) k) (viewIn F st s) from now k item)
+      → Agree F (afterItem st k from (itemTurned F (st .home) s k (planOf st k .upload) (planOf st k) from now item)) (onItem (model.uploadOf (viewIn F st s) k) (viewIn F st s) from now k item)
   unfolding itemTurned onItem uploadIn
   item-agrees st s three long ranged k known from now item ofKind = rw (upload-shown F st s k known) (by (planOf st k .upload) refl)
     where
       by : (u : Upload) → planOf st k .upload ≡ u
-          → Agree F (afterItem st k from (itemTurned F s k u (planOf st k) from now item)) (onItem (uploadIn F s (not (planOf st k .half)) k u) (viewIn F st s) from now k item)
+          → Agree F (afterItem st k from (itemTurned F (st .home) s k u (planOf st k) from now item)) (onItem (uploadIn F s (not (planOf st k .half)) k u) (viewIn F st s) from now k item)
       by Idle e = kept F st s three k known from (Ack invalidSequence 0) (acks from invalidSequence k) refl
       by (Running r) e = item-runs st s long ranged k known r e item ofKind three from now

@@ -11,7 +11,7 @@ use Rattle.rules.specs.Limits.{flight, fence, rally, kinds, everyKind}
 use Rattle.rules.specs.Payload.{Bytes}
 use Rattle.rules.specs.Messages.{Station, current, count, itemInt, itemIn}
 use Rattle.rules.specs.Model as model
-use Rattle.rules.specs.Model.{Model, idle, every, isOthers, isOwn, shownNumber, choose, inRange}
+use Rattle.rules.specs.Model.{Model, idle, every, isOthers, isOwn, shownNumber, flown, choose, inRange}
 use Rattle.rules.specs.Calls.{Request, chooses, asksList, announces, changes, clears, acknowledges, asksItem, brings, isKnown}
 use Rattle.rules.specs.Step.{Stepped, Answer, says, silent, currentField, refusalText, idleAt, covered, anyOthers, onClear, onList, onRequest, onSetCurrent, onKnown, kindOk, onMessage, onAck}
 use Rattle.rule_laws.specs.Tests.{both, either₂}
@@ -117,19 +117,23 @@ module _ (F : Form) (lawful : Lawful F) where
 
     choose-agrees :
         (k seq : ℕ)
-        → AgreeIn k (does (chooseEffect (planOf st flight) seq) s (chooseAnswer (planOf st flight) (planOf st fence) (planOf st rally) seq)) (onSetCurrent (viewIn F st s) seq)
-    unfolding chooseEffect chooseAnswer onSetCurrent
+        → AgreeIn k (does (chooseEffect (planOf st flight) (flown (st .home) seq)) s (chooseAnswer (planOf st flight) (planOf st fence) (planOf st rally) (flown (st .home) seq)))
+        (onSetCurrent (viewIn F st s) seq)
+    unfolding chooseEffect chooseAnswer onSetCurrent viewIn
     choose-agrees k seq =
-        rw (number-shown flight refl, number-shown fence refl, number-shown rally refl, length-shown F st s flight refl) (go (ltb seq (planOf st flight .len)))
+        rw (number-shown flight refl, number-shown fence refl, number-shown rally refl, length-shown F st s flight refl) (go (ltb n (planOf st flight .len)))
       where
+        n : ℕ
+        n = flown (st .home) seq
+
         numbers : ℕ → ℕ
         numbers kind = shownNumber (planOf st kind .len) (planOf st kind .number)
 
         go : (t : Bool)
-            → AgreeIn k (does (cond t (Chooses seq) Nothing) s (cond t (says (current seq (planOf st flight .len) 0 0 (numbers flight) (numbers fence) (numbers rally))) (says refusalText)))
-            (cond t (record { model = record { shown = choose seq (viewIn F st s .shown); uploads = viewIn F st s .uploads }; answer = says (current seq (planOf st flight .len) 0 0 (numbers flight) (numbers fence) (numbers rally)) })
+            → AgreeIn k (does (cond t (Chooses n) Nothing) s (cond t (says (current n (planOf st flight .len) 0 0 (numbers flight) (numbers fence) (numbers rally))) (says refusalText)))
+            (cond t (record { model = record { shown = choose n (viewIn F st s .shown); uploads = viewIn F st s .uploads }; answer = says (current n (planOf st flight .len) 0 0 (numbers flight) (numbers fence) (numbers rally)) })
             (record { model = viewIn F st s; answer = says refusalText }))
-        go true = record { model = chosen-view seq; answer = refl }
+        go true = record { model = chosen-view n; answer = refl }
         go false = record { model = refl; answer = refl }
 
     -- ---- an ACK of any kind
@@ -161,7 +165,7 @@ module _ (F : Form) (lawful : Lawful F) where
     -- ---- every message
 
     module _ (long : least F ≤ length s) (ranged : inRange (viewIn F st s) ≡ true) (from : Station) (now k : ℕ) where
-      known-agrees : (r : Request) → kindOk k r ≡ true → OfItsKind k r → AgreeIn k (knownDone F (st .plans) (st .current) s from now k r) (onKnown (viewIn F st s) from now k r)
+      known-agrees : (r : Request) → kindOk k r ≡ true → OfItsKind k r → AgreeIn k (knownDone F (st .home) (st .plans) (st .current) s from now k r) (onKnown (viewIn F st s) from now k r)
       unfolding knownDone planDone onKnown kindOk
       known-agrees (chooses seq) ok ofKind = choose-agrees k seq
       known-agrees asksList ok ofKind = list-agrees from k ok

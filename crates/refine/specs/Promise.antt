@@ -77,20 +77,20 @@ module _ (F : Form) where
 
   -- An item, as the one which an upload of a kind expects next, is the last of a part, and valid: the plan's other items are put beside it. (No item of a part is judged by those
   -- taken before it.)
-  abbrev pub fillsUp : (kind : ℕ) → Run → Item → Bool
-  fillsUp kind r item = r .partial && eqb (r .next) (r .last) && eqb (verdictOn kind (taskIn r) (r .next) [] item) accepted
+  abbrev pub fillsUp : (home : Bool) (kind : ℕ) → Run → Item → Bool
+  fillsUp home kind r item = r .partial && eqb (r .next) (r .last) && eqb (verdictOn home kind (taskIn r) (r .next) [] item) accepted
 
   -- An item of a kind, from a station, may change one place: that of the item which the kind's upload expects next, in the half that the plan is not in; where it is the last of a
   -- part, and valid, the places there of all items that the plan is to have; and only where the upload is the station's own and the item has the number that it expects.
-  unfoldable pub spareIn : Plan → (kind : ℕ) → Upload → Station → Item → (i : ℕ) → Bool
-  spareIn p kind Idle from item i = false
-  spareIn p kind (Running r) from item i =
+  unfoldable pub spareIn : (home : Bool) → Plan → (kind : ℕ) → Upload → Station → Item → (i : ℕ) → Bool
+  spareIn home p kind Idle from item i = false
+  spareIn home p kind (Running r) from item i =
       sameStation from (stationIn r) && eqb (item .seq) (r .next)
-      && inPlaces (not (p .half)) kind (cond (fillsUp kind r item) 0 (r .next)) (cond (fillsUp kind r item) (r .count) (r .next + 1)) i
+      && inPlaces (not (p .half)) kind (cond (fillsUp home kind r item) 0 (r .next)) (cond (fillsUp home kind r item) (r .count) (r .next + 1)) i
 
   -- no other call changes anything in the store
   unfoldable pub spareAt : State → Heard → ℕ → Bool
-  spareAt st (request from now kind (brings item)) i = isKnown kind && spareIn (planOf st kind) kind (planOf st kind .upload) from item i
+  spareAt st (request from now kind (brings item)) i = isKnown kind && spareIn (st .home) (planOf st kind) kind (planOf st kind .upload) from item i
   spareAt st (request from now kind (chooses seq)) i = false
   spareAt st (request from now kind asksList) i = false
   spareAt st (request from now kind (announces n)) i = false

@@ -65,7 +65,7 @@ module _ (F : Form) (lawful : Lawful F) where
   -- the state after "command done"
   reached : Found → State → State
   reached (nowhere c) st = st
-  reached (found n counts c) st = record { plans = st .plans; current = n; begun = true; counts = counts }
+  reached (found n counts c) st = record { plans = st .plans; current = n; begun = true; home = st .home; counts = counts }
 
   -- the code's step by what is heard
   doneBy : State → Store → Heard → After
@@ -102,7 +102,7 @@ module _ (F : Form) (lawful : Lawful F) where
   done-three : (st : State) (s : Store) (h : Heard) → Three st → Three (doneBy st s h .state)
   unfolding doneBy
   done-three st s (refuses outcome) three = three
-  done-three st s (request from now k r) three = applied-three st k (messageDone F (st .plans) (st .current) s from now k r .effect) three
+  done-three st s (request from now k r) three = applied-three st k (messageDone F (st .home) (st .plans) (st .current) s from now k r .effect) three
   done-three st s (expiry now k) three = applied-three st k (timerDone (planOf st k) s now k .effect) three
   done-three st s commandDone three = reached-three st three (next (viewIn F st s .shown))
 

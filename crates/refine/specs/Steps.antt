@@ -10,7 +10,7 @@ use borrow.Author.Tests.{le-leb, eq-eqb, ne-eqb, eqb-true, not-true, not-false}
 use Rattle.rules.specs.Limits.{flight, rally, kinds, everyKind, sizeOf, accepted, maxRepeats, expiryMs, lastNumber}
 use Rattle.rules.specs.Messages.{Station, Item, sameStation}
 use Rattle.rules.specs.Model as model
-use Rattle.rules.specs.Model.{Model, wholeTask, partTask, nextNumber, elapsed, verdictOn, wholeFault, every, inRange}
+use Rattle.rules.specs.Model.{Model, wholeTask, partTask, nextNumber, elapsed, verdictOn, wholeFault, flown, every, inRange}
 use Rattle.rules.specs.Calls.{Call, Request, chooses, asksList, announces, changes, clears, acknowledges, asksItem, brings, Heard, refuses, request, expiry, commandDone, isKnown, heard}
 use Rattle.rules.specs.NextCommand.{next, answerOf, advance}
 use Rattle.rules.specs.Step.{refused, orders, isRefused, Stepped, partOk, covered, kindOk, act, step}
@@ -128,13 +128,13 @@ module _ (F : Form) (lawful : Lawful F) where
         either StoredTurnOk (not (eqb (r .next) (r .last))) (λ t. runs-ok (oneMore r now))
         (λ t. either TurnOk (eqb (wholeFault k (taskIn r) _) accepted) (λ t. puts-ok (r .partial) (r .count)) (λ t. ended-ok))
 
-    item-ok : (s : Store) (u : Upload) (from : Station) (now : ℕ) (item : Item) → StoredTurnOk (itemTurned F s k u p from now item)
+    item-ok : (home : Bool) (s : Store) (u : Upload) (from : Station) (now : ℕ) (item : Item) → StoredTurnOk (itemTurned F home s k u p from now item)
     unfolding itemTurned
-    item-ok s Idle from now item = tt
-    item-ok s (Running r) from now item =
+    item-ok home s Idle from now item = tt
+    item-ok home s (Running r) from now item =
         either StoredTurnOk (not (sameStation from (stationIn r))) (λ t. tt)
         (λ t. either StoredTurnOk (not (eqb (item .seq) (r .next))) (λ t. tt)
-        (λ t. either StoredTurnOk (not (eqb (itemVerdict F s k p r item) accepted)) (λ t. ended-ok) (λ t. valid-ok (stored F s k p r item) r now)))
+        (λ t. either StoredTurnOk (not (eqb (itemVerdict F home s k p r item) accepted)) (λ t. ended-ok) (λ t. valid-ok (stored F s k p r item) r now)))
 
   -- ---- halves of the whole state
 
@@ -206,40 +206,40 @@ module _ (F : Form) (lawful : Lawful F) where
       abbrev p : Plan
       p = planOf st k
 
-      own-beside : (s′ : Store) → Leaves F (not (p .half)) k (cond (fillsUp F k r item) 0 (r .next)) (cond (fillsUp F k r item) (r .count) (r .next + 1)) s s′ → Beside s (spareIn F p k (Running r) from item) s′
+      own-beside : (s′ : Store) → Leaves F (not (p .half)) k (cond (fillsUp F (st .home) k r item) 0 (r .next)) (cond (fillsUp F (st .home) k r item) (r .count) (r .next + 1)) s s′ → Beside s (spareIn F (st .home) p k (Running r) from item) s′
       unfolding spareIn
       own-beside s′ leaves =
-          let after = leaves-beside (cond (fillsUp F k r item) 0 (r .next)) (cond (fillsUp F k r item) (r .count) (r .next + 1)) s′ leaves in
+          let after = leaves-beside (cond (fillsUp F (st .home) k r item) 0 (r .next)) (cond (fillsUp F (st .home) k r item) (r .count) (r .next + 1)) s′ leaves in
           record { numbers = λ i e. after .numbers i (rw (own, turn) at e); long = after .long }
 
       -- no item of a part is judged by those taken before it
-      part-verdict : r .partial ≡ true → verdictOn k (taskIn r) (r .next) [] item ≡ itemVerdict F s k p r item
+      part-verdict : r .partial ≡ true → verdictOn (st .home) k (taskIn r) (r .next) [] item ≡ itemVerdict F (st .home) s k p r item
       unfolding verdictOn
       part-verdict part = rw part
 
-      fills-not : eqb (r .next) (r .last) ≡ false → fillsUp F k r item ≡ false
+      fills-not : eqb (r .next) (r .last) ≡ false → fillsUp F (st .home) k r item ≡ false
       fills-not e = rw (e, and-false)
 
-      fills : eqb (r .next) (r .last) ≡ true → eqb (itemVerdict F s k p r item) accepted ≡ true → r .partial ≡ true → fillsUp F k r item ≡ true
+      fills : eqb (r .next) (r .last) ≡ true → eqb (itemVerdict F (st .home) s k p r item) accepted ≡ true → r .partial ≡ true → fillsUp F (st .home) k r item ≡ true
       fills e valid part = rw (part-verdict part, valid, part, e)
 
-      fills-whole : r .partial ≡ false → fillsUp F k r item ≡ false
+      fills-whole : r .partial ≡ false → fillsUp F (st .home) k r item ≡ false
       fills-whole all = rw all
 
       -- an item that is not the last
-      more-beside : eqb (r .next) (r .last) ≡ false → Beside s (spareIn F p k (Running r) from item) (stored F s k p r item)
+      more-beside : eqb (r .next) (r .last) ≡ false → Beside s (spareIn F (st .home) p k (Running r) from item) (stored F s k p r item)
       more-beside e =
           own-beside (stored F s k p r item)
           (subst (λ (b : Bool). Leaves F (not (p .half)) k (cond b 0 (r .next)) (cond b (r .count) (r .next + 1)) s (stored F s k p r item))
           (sym (fills-not e)) (written F lawful st s long ranged k known r runs item))
 
       -- the last, and valid
-      last-beside : eqb (r .next) (r .last) ≡ true → eqb (itemVerdict F s k p r item) accepted ≡ true → Beside s (spareIn F p k (Running r) from item) (settled F (stored F s k p r item) k p r)
+      last-beside : eqb (r .next) (r .last) ≡ true → eqb (itemVerdict F (st .home) s k p r item) accepted ≡ true → Beside s (spareIn F (st .home) p k (Running r) from item) (settled F (stored F s k p r item) k p r)
       unfolding settled
       last-beside e valid = own-beside (settled F (stored F s k p r item) k p r) (go (r .partial) refl)
         where
           go : (b : Bool) → r .partial ≡ b
-              → Leaves F (not (p .half)) k (cond (fillsUp F k r item) 0 (r .next)) (cond (fillsUp F k r item) (r .count) (r .next + 1)) s (settled F (stored F s k p r item) k p r)
+              → Leaves F (not (p .half)) k (cond (fillsUp F (st .home) k r item) 0 (r .next)) (cond (fillsUp F (st .home) k r item) (r .count) (r .next + 1)) s (settled F (stored F s k p r item) k p r)
           go true part =
               subst (λ (b : Bool). Leaves F (not (p .half)) k (cond b 0 (r .next)) (cond b (r .count) (r .next + 1)) s (settled F (stored F s k p r item) k p r))
               (sym (fills e valid part)) (settled-leaves F lawful st s long ranged k known r runs item)
@@ -250,22 +250,22 @@ module _ (F : Form) (lawful : Lawful F) where
 
     item-beside :
         (u : Upload) → planOf st k .upload ≡ u → (from : Station) (now : ℕ) (item : Item)
-        → Beside s (spareIn F (planOf st k) k u from item) (itemTurned F s k u (planOf st k) from now item .store)
+        → Beside s (spareIn F (st .home) (planOf st k) k u from item) (itemTurned F (st .home) s k u (planOf st k) from now item .store)
     unfolding itemTurned validItemTurned
-    item-beside Idle e from now item = beside-same s (spareIn F (planOf st k) k Idle from item)
+    item-beside Idle e from now item = beside-same s (spareIn F (st .home) (planOf st k) k Idle from item)
     item-beside (Running r) e from now item =
-        let free = spareIn F (planOf st k) k (Running r) from item in
+        let free = spareIn F (st .home) (planOf st k) k (Running r) from item in
         let p = planOf st k in
         either Left (not (sameStation from (stationIn r))) (λ t. beside-same s free)
         (λ own. either Left (not (eqb (item .seq) (r .next))) (λ t. beside-same s free)
-        (λ turn. either Left (not (eqb (itemVerdict F s k p r item) accepted)) (λ t. beside-same s free)
+        (λ turn. either Left (not (eqb (itemVerdict F (st .home) s k p r item) accepted)) (λ t. beside-same s free)
         (λ valid. either Left (not (eqb (r .next) (r .last)))
         (λ more. more-beside r from item e (not-false (sameStation from (stationIn r)) own) (not-false (eqb (item .seq) (r .next)) turn) (not-true (eqb (r .next) (r .last)) more))
         (λ last. last-beside r from item e (not-false (sameStation from (stationIn r)) own) (not-false (eqb (item .seq) (r .next)) turn) (not-false (eqb (r .next) (r .last)) last)
-        (not-false (eqb (itemVerdict F s k p r item) accepted) valid)))))
+        (not-false (eqb (itemVerdict F (st .home) s k p r item) accepted) valid)))))
       where
         Left : TurnAndStore → Type 0
-        Left t = Beside s (spareIn F (planOf st k) k (Running r) from item) (t .store)
+        Left t = Beside s (spareIn F (st .home) (planOf st k) k (Running r) from item) (t .store)
 
   -- ---- every message
 
@@ -288,28 +288,28 @@ module _ (F : Form) (lawful : Lawful F) where
         go true e = tt
         go false e = emptied-ok k (rw (e, or-false) at ok) (planOf st k)
 
-    known-effect : (r : Request) → kindOk k r ≡ true → DoneOk (knownDone F (st .plans) (st .current) s from now k r)
+    known-effect : (r : Request) → kindOk k r ≡ true → DoneOk (knownDone F (st .home) (st .plans) (st .current) s from now k r)
     unfolding knownDone planDone kindOk chooseEffect clearDone
-    known-effect (chooses seq) ok = either (EffectOk k (planOf st k)) (ltb seq (planOf st flight .len)) (λ t. tt) (λ t. tt)
+    known-effect (chooses seq) ok = either (EffectOk k (planOf st k)) (ltb (flown (st .home) seq) (planOf st flight .len)) (λ t. tt) (λ t. tt)
     known-effect asksList ok = tt
     known-effect (announces n) ok = count-ok k ok (planOf st k) from now n (sizeOf k)
     known-effect (changes start end) ok = part-ok k ok (planOf st k) from now start end
     known-effect clears ok = either DoneOk (othersAmong (st .plans) from (covered k)) (λ t. tt) (λ t. clear-effect ok)
     known-effect (acknowledges result) ok = ack-effect result
     known-effect (asksItem seq) ok = tt
-    known-effect (brings item) ok = item-ok k ok (planOf st k) s (planOf st k .upload) from now item
+    known-effect (brings item) ok = item-ok k ok (planOf st k) (st .home) s (planOf st k .upload) from now item
 
-    pub message-effect : (r : Request) → DoneOk (messageDone F (st .plans) (st .current) s from now k r)
+    pub message-effect : (r : Request) → DoneOk (messageDone F (st .home) (st .plans) (st .current) s from now k r)
     unfolding messageDone
     message-effect r = either DoneOk (kindOk k r) (known-effect r) (λ t. tt)
 
     message-halves : (r : Request) → HalvesOk st (afterMessage F st s from now k r .state)
-    message-halves r = effect-halves st three k (messageDone F (st .plans) (st .current) s from now k r .effect) (message-effect r)
+    message-halves r = effect-halves st three k (messageDone F (st .home) (st .plans) (st .current) s from now k r .effect) (message-effect r)
 
     abbrev Left : Request → Done → Type 0
     Left r d = Beside s (spareAt F st (request from now k r)) (d .store)
 
-    known-beside : (r : Request) → kindOk k r ≡ true → Left r (knownDone F (st .plans) (st .current) s from now k r)
+    known-beside : (r : Request) → kindOk k r ≡ true → Left r (knownDone F (st .home) (st .plans) (st .current) s from now k r)
     unfolding knownDone planDone kindOk clearDone spareAt
     known-beside (chooses seq) ok = beside-same s (λ i. false)
     known-beside asksList ok = beside-same s (λ i. false)
@@ -322,7 +322,7 @@ module _ (F : Form) (lawful : Lawful F) where
         let after = item-beside st s long ranged k ok (planOf st k .upload) refl from now item in
         record { numbers = λ i e. after .numbers i (rw ok at e); long = after .long }
 
-    message-beside : (r : Request) → Left r (messageDone F (st .plans) (st .current) s from now k r)
+    message-beside : (r : Request) → Left r (messageDone F (st .home) (st .plans) (st .current) s from now k r)
     unfolding messageDone
     message-beside r = either (Left r) (kindOk k r) (known-beside r) (λ t. beside-same s (spareAt F st (request from now k r)))
 

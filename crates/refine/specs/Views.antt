@@ -47,7 +47,7 @@ module _ (F : Form) where
     view-turned :
         (k : ℕ) (p : Plan) → isKnown k ≡ true
         → viewIn F (turnedState st k p) s
-        ≡ record { shown = record { plans = shownWith k p; current = st .current; begun = st .begun; counts = st .counts }; uploads = uploadsWith k p }
+        ≡ record { shown = record { plans = shownWith k p; current = st .current; begun = st .begun; counts = st .counts; home = st .home }; uploads = uploadsWith k p }
     unfolding viewIn
     view-turned k p known = rw (at k flight p known, at k fence p known, at k rally p known)
 
@@ -61,7 +61,7 @@ module _ (F : Form) where
         view-turned k (withUpload (planOf st k) u) known
         ∙ each-kind
         (λ (k : ℕ). _≡_ {A = Model}
-        (record { shown = record { plans = shownWith k (withUpload (planOf st k) u); current = st .current; begun = st .begun; counts = st .counts }; uploads = uploadsWith k (withUpload (planOf st k) u) })
+        (record { shown = record { plans = shownWith k (withUpload (planOf st k) u); current = st .current; begun = st .begun; counts = st .counts; home = st .home }; uploads = uploadsWith k (withUpload (planOf st k) u) })
         (record { shown = viewIn F st s .shown; uploads = set (viewIn F st s .uploads) k (uploadIn F s (not (planOf st k .half)) k u) }))
         refl refl refl k known
 
@@ -75,6 +75,6 @@ module _ (F : Form) where
         rw (at k flight p known, at k fence p known, at k rally p known)
         (each-kind
         (λ (k : ℕ). _≡_ {A = Model}
-        (record { shown = record { plans = shownWith k p; current = cond (eqb k flight && not partial) 0 (st .current); begun = cond (eqb k flight && not partial) false (st .begun); counts = cond (eqb k flight) model.noCounts (st .counts) }; uploads = uploadsWith k p })
+        (record { shown = record { plans = shownWith k p; current = cond (eqb k flight && not partial) 0 (st .current); begun = cond (eqb k flight && not partial) false (st .begun); counts = cond (eqb k flight) model.noCounts (st .counts); home = st .home }; uploads = uploadsWith k p })
         (record { shown = withPlan partial k (planIn F s k p) (viewIn F st s .shown); uploads = set (viewIn F st s .uploads) k (uploadIn F s (not (p .half)) k (p .upload)) }))
         refl refl refl k known)

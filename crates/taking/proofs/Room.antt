@@ -25,6 +25,6 @@ module _ (kind count own jumps : ℕ) (i : Item) where
   among [] = refl
   among (r ∷ rs) = rw (in-row r, among rs)
 
-  pub fault-room : fault kind count own (cond (isJump i) jumps 0) i ≡ fault kind count own jumps i
+  pub fault-room : (home : Bool) → fault home kind count own (cond (isJump i) jumps 0) i ≡ fault home kind count own jumps i
   unfolding fault
-  fault-room = among commands
+  fault-room home = rw (among (commands home))

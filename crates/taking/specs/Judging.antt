@@ -22,12 +22,12 @@ use Rattle.taking.specs.declared.Judged.{Judged}
 use Rattle.taking.specs.declared.Judged.the-variants.{Refused, OutOfTurn, Invalid, Valid}
 use Rattle.upload.specs.Turns.{ended, keeps, moves, TurnAndStore, turnWith, stored, validItemTurned, itemVerdict, itemTurned}
 
-unfoldable pub judgedAs : Store → (kind : ℕ) → Upload → Plan → Station → Item → Judged
-judgedAs s kind Idle p from item = Refused invalidSequence
-judgedAs s kind (Running r) p from item =
+unfoldable pub judgedAs : (home : Bool) → Store → (kind : ℕ) → Upload → Plan → Station → Item → Judged
+judgedAs home s kind Idle p from item = Refused invalidSequence
+judgedAs home s kind (Running r) p from item =
     cond (not (sameStation from (stationIn r))) (Refused denied)
     (cond (not (eqb (item .seq) (r .next))) (OutOfTurn (r .next))
-    (cond (not (eqb (itemVerdict words s kind p r item) accepted)) (Invalid (itemVerdict words s kind p r item))
+    (cond (not (eqb (itemVerdict words home s kind p r item) accepted)) (Invalid (itemVerdict words home s kind p r item))
     (Valid r)))
 
 unfoldable pub turnedAs : Judged → Store → (kind : ℕ) → Plan → (now : ℕ) → Item → TurnAndStore
@@ -36,31 +36,31 @@ turnedAs (OutOfTurn next) s kind p now item = turnWith (keeps (Ask next)) s
 turnedAs (Invalid result) s kind p now item = turnWith (moves (ended p) (Ack result 0)) s
 turnedAs (Valid r) s kind p now item = validItemTurned words (stored words s kind p r item) kind p r now
 
-pub turned-judged : (s : Store) (kind : ℕ) (u : Upload) (p : Plan) (from : Station) (now : ℕ) (item : Item)
-    → itemTurned words s kind u p from now item ≡ turnedAs (judgedAs s kind u p from item) s kind p now item
+pub turned-judged : (home : Bool) (s : Store) (kind : ℕ) (u : Upload) (p : Plan) (from : Station) (now : ℕ) (item : Item)
+    → itemTurned words home s kind u p from now item ≡ turnedAs (judgedAs home s kind u p from item) s kind p now item
 unfolding itemTurned judgedAs turnedAs
-turned-judged s kind Idle p from now item = refl
-turned-judged s kind (Running r) p from now item =
-    go (not (sameStation from (stationIn r))) (not (eqb (item .seq) (r .next))) (not (eqb (itemVerdict words s kind p r item) accepted))
+turned-judged home s kind Idle p from now item = refl
+turned-judged home s kind (Running r) p from now item =
+    go (not (sameStation from (stationIn r))) (not (eqb (item .seq) (r .next))) (not (eqb (itemVerdict words home s kind p r item) accepted))
   where
     go : (a b c : Bool)
         → cond a (turnWith (keeps (Ack denied 0)) s)
         (cond b (turnWith (keeps (Ask (r .next))) s)
-        (cond c (turnWith (moves (ended p) (Ack (itemVerdict words s kind p r item) 0)) s) (validItemTurned words (stored words s kind p r item) kind p r now)))
-        ≡ turnedAs (cond a (Refused denied) (cond b (OutOfTurn (r .next)) (cond c (Invalid (itemVerdict words s kind p r item)) (Valid r)))) s kind p now item
+        (cond c (turnWith (moves (ended p) (Ack (itemVerdict words home s kind p r item) 0)) s) (validItemTurned words (stored words s kind p r item) kind p r now)))
+        ≡ turnedAs (cond a (Refused denied) (cond b (OutOfTurn (r .next)) (cond c (Invalid (itemVerdict words home s kind p r item)) (Valid r)))) s kind p now item
     go true b c = refl
     go false true c = refl
     go false false true = refl
     go false false false = refl
 
 -- an item is valid only in a running upload
-pub valid-running : (s : Store) (kind : ℕ) (u : Upload) (p : Plan) (from : Station) (item : Item) (r : Run) → judgedAs s kind u p from item ≡ Valid r → u ≡ Running r
+pub valid-running : (home : Bool) (s : Store) (kind : ℕ) (u : Upload) (p : Plan) (from : Station) (item : Item) (r : Run) → judgedAs home s kind u p from item ≡ Valid r → u ≡ Running r
 unfolding judgedAs
-valid-running s kind Idle p from item r e = absurd (let z : _≡_ {A = ℕ} 0 1 = cc in omega arith)
-valid-running s kind (Running q) p from item r e = go (not (sameStation from (stationIn q))) (not (eqb (item .seq) (q .next))) (not (eqb (itemVerdict words s kind p q item) accepted)) e
+valid-running home s kind Idle p from item r e = absurd (let z : _≡_ {A = ℕ} 0 1 = cc in omega arith)
+valid-running home s kind (Running q) p from item r e = go (not (sameStation from (stationIn q))) (not (eqb (item .seq) (q .next))) (not (eqb (itemVerdict words home s kind p q item) accepted)) e
   where
     go : (a b c : Bool)
-        → cond a (Refused denied) (cond b (OutOfTurn (q .next)) (cond c (Invalid (itemVerdict words s kind p q item)) (Valid q))) ≡ Valid r
+        → cond a (Refused denied) (cond b (OutOfTurn (q .next)) (cond c (Invalid (itemVerdict words home s kind p q item)) (Valid q))) ≡ Valid r
         → Running q ≡ Running r
     go true b c e = absurd (let z : _≡_ {A = ℕ} 0 1 = cc in omega arith)
     go false true c e = absurd (let z : _≡_ {A = ℕ} 0 1 = cc in omega arith)

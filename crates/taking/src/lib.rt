@@ -62,16 +62,17 @@ fn jumps_before(store: &[u32], kind: u8, half: bool, n: u16, partial: bool, item
 }
 
 // The result for an item as the next of an upload, whose items taken stand in the half that the plan is not in.
-fn result_of(store: &[u32], kind: u8, plan: Plan, run: Run, item: Item) -> u8
+fn result_of(home: bool, store: &[u32], kind: u8, plan: Plan, run: Run, item: Item) -> u8
     requires { ⌜ (storeWords ≤ length (now store)) × (kind ≤ rally) × InRange (sizeOf kind) (plan .len) run × (item ≡ itemFor (patterns item)) ⌝ }
-    ensures { λ r. ⌜ r ≡ verdictOn kind (taskIn run) (run .next) (drop (run .first) (itemsIn words (now (store .entry)) (not (plan .half)) kind (run .next))) (patterns item) ⌝ }
+    ensures { λ r. ⌜ r ≡ verdictOn home kind (taskIn run) (run .next) (drop (run .first) (itemsIn words (now (store .entry)) (not (plan .half)) kind (run .next))) (patterns item) ⌝ }
 {
     let before = jumps_before(store, kind, !plan.half, run.next, run.partial, item);
-    item_rules::verdict(item, kind, run.count, run.next, before)
+    item_rules::verdict(home, item, kind, run.count, run.next, before)
 }
 
 // The judgement in a running upload.
 fn judge_running(
+    home: bool,
     store: &[u32],
     kind: u8,
     plan: Plan,
@@ -81,7 +82,7 @@ fn judge_running(
     item: Item,
 ) -> Judged
     requires { ⌜ (storeWords ≤ length (now store)) × (kind ≤ rally) × InRange (sizeOf kind) (plan .len) run × (item ≡ itemFor (patterns item)) ⌝ }
-    ensures { λ r. ⌜ r ≡ judgedAs (now (store .entry)) kind (Upload.Running run) plan (station system component) (patterns item) ⌝ }
+    ensures { λ r. ⌜ r ≡ judgedAs home (now (store .entry)) kind (Upload.Running run) plan (station system component) (patterns item) ⌝ }
 {
     if !is_from(run, system, component) {
         return Judged::Refused(DENIED);
@@ -89,21 +90,29 @@ fn judge_running(
     if item.seq != run.next {
         return Judged::OutOfTurn(run.next);
     }
-    let result = result_of(store, kind, plan, run, item);
+    let result = result_of(home, store, kind, plan, run, item);
     if result != ACCEPTED {
         return Judged::Invalid(result);
     }
     Judged::Valid(run)
 }
 
-fn judge(store: &[u32], kind: u8, plan: Plan, system: u8, component: u8, item: Item) -> Judged
+fn judge(
+    home: bool,
+    store: &[u32],
+    kind: u8,
+    plan: Plan,
+    system: u8,
+    component: u8,
+    item: Item,
+) -> Judged
     requires { ⌜ (storeWords ≤ length (now store)) × (kind ≤ rally) × (uploadRanged (sizeOf kind) (plan .len) (plan .upload) ≡ true) × (item ≡ itemFor (patterns item)) ⌝ }
-    ensures { λ r. ⌜ r ≡ judgedAs (now (store .entry)) kind (plan .upload) plan (station system component) (patterns item) ⌝ }
+    ensures { λ r. ⌜ r ≡ judgedAs home (now (store .entry)) kind (plan .upload) plan (station system component) (patterns item) ⌝ }
 {
     let upload = plan.upload;
     match upload {
         Upload::Idle => Judged::Refused(INVALID_SEQUENCE),
-        Upload::Running(run) => { judge_running(store, kind, plan, run, system, component, item) }
+        Upload::Running(run) => { judge_running(home, store, kind, plan, run, system, component, item) }
     }
 }
 
@@ -193,6 +202,7 @@ fn valid_turn(store: &mut [u32], kind: u8, plan: Plan, run: Run, clock: u32) -> 
 
 // ITEM_INT from a station. Only a valid item changes the store, at the upload's next place in the other half; the last of a part, at all places of the plan there.
 pub fn take_item(
+    home: bool,
     plan: Plan,
     store: &mut [u32],
     kind: u8,
@@ -202,9 +212,9 @@ pub fn take_item(
     item: Item,
 ) -> Turned
     requires { ⌜ (storeWords ≤ length (now store)) × (kind ≤ rally) × (uploadRanged (sizeOf kind) (plan .len) (plan .upload) ≡ true) × (item ≡ itemFor (patterns item)) ⌝ }
-    ensures { λ r. ⌜ turnWith r (now (store .exit)) ≡ itemTurned words (now (store .entry)) kind (plan .upload) plan (station system component) clock (patterns item) ⌝ }
+    ensures { λ r. ⌜ turnWith r (now (store .exit)) ≡ itemTurned words home (now (store .entry)) kind (plan .upload) plan (station system component) clock (patterns item) ⌝ }
 {
-    let judged = judge(store, kind, plan, system, component, item);
+    let judged = judge(home, store, kind, plan, system, component, item);
     match judged {
         Judged::Refused(result) => keeps(Say::Ack(result, 0)),
         Judged::OutOfTurn(next) => keeps(Say::Ask(next)),

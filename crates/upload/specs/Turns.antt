@@ -134,13 +134,13 @@ module _ (F : Form) where
       cond (not (eqb (r .next) (r .last))) (turnWith (moves (withUpload p (Running (oneMore r now))) (Ask (r .next + 1))) s)
       (turnWith (lastTurned (settled s kind p r) kind p r) (settled s kind p r))
 
-  abbrev pub itemVerdict : Store → (kind : ℕ) → Plan → Run → Item → ℕ
-  itemVerdict s kind p r item = verdictOn kind (taskIn r) (r .next) (drop (r .first) (itemsIn F s (not (p .half)) kind (r .next))) item
+  abbrev pub itemVerdict : (home : Bool) → Store → (kind : ℕ) → Plan → Run → Item → ℕ
+  itemVerdict home s kind p r item = verdictOn home kind (taskIn r) (r .next) (drop (r .first) (itemsIn F s (not (p .half)) kind (r .next))) item
 
-  unfoldable pub itemTurned : Store → (kind : ℕ) → Upload → Plan → Station → (now : ℕ) → Item → TurnAndStore
-  itemTurned s kind Idle p from now item = turnWith (keeps (Ack invalidSequence 0)) s
-  itemTurned s kind (Running r) p from now item =
+  unfoldable pub itemTurned : (home : Bool) → Store → (kind : ℕ) → Upload → Plan → Station → (now : ℕ) → Item → TurnAndStore
+  itemTurned home s kind Idle p from now item = turnWith (keeps (Ack invalidSequence 0)) s
+  itemTurned home s kind (Running r) p from now item =
       cond (not (sameStation from (stationIn r))) (turnWith (keeps (Ack denied 0)) s)
       (cond (not (eqb (item .seq) (r .next))) (turnWith (keeps (Ask (r .next))) s)
-      (cond (not (eqb (itemVerdict s kind p r item) accepted)) (turnWith (moves (ended p) (Ack (itemVerdict s kind p r item) 0)) s)
+      (cond (not (eqb (itemVerdict home s kind p r item) accepted)) (turnWith (moves (ended p) (Ack (itemVerdict home s kind p r item) 0)) s)
       (validItemTurned (stored s kind p r item) kind p r now)))

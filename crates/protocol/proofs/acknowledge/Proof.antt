@@ -39,20 +39,20 @@ above p q s (suc zero) more = absurd (omega arith)
 above p q s (suc (suc zero)) more = absurd (omega arith)
 above p q s (suc (suc (suc kind))) more = refl
 
-module _ (kind result : ℕ) (from : Station) (p q s : Plan) (current : ℕ) (store : Store) (clock : ℕ) (b : Bytes) where
+module _ (kind result : ℕ) (from : Station) (home : Bool) (p q s : Plan) (current : ℕ) (store : Store) (clock : ℕ) (b : Bytes) where
   turned-so : (turned : Turned) (quiet : Said) → turned ≡ ackTurned (planAmong (p ∷ q ∷ s ∷ []) kind) from result → quiet ≡ said noReply 0 0
-      → DoneBy (knownDone words (p ∷ q ∷ s ∷ []) current store from clock kind (acknowledges result)) store b b (record { effect = turned .effect; said = quiet })
+      → DoneBy (knownDone words home (p ∷ q ∷ s ∷ []) current store from clock kind (acknowledges result)) store b b (record { effect = turned .effect; said = quiet })
   unfolding knownDone planDone
   turned-so turned quiet turn none =
       rw (sym turn, (ap (λ (t : Turned). t .say) turn ∙ says-nothing (planAmong (p ∷ q ∷ s ∷ []) kind) from result), none)
       (record { handles = record { effect = refl; spoken = spoken-silent b }; store = refl })
 
   acknowledged : (x : Plan) (turned : Turned) (quiet : Said) → kind ≤ rally → turned ≡ ackTurned x from result → quiet ≡ said noReply 0 0 → IsPlanOf kind x p q s
-      → DoneBy (knownDone words (p ∷ q ∷ s ∷ []) current store from clock kind (acknowledges result)) store b b (record { effect = turned .effect; said = quiet })
+      → DoneBy (knownDone words home (p ∷ q ∷ s ∷ []) current store from clock kind (acknowledges result)) store b b (record { effect = turned .effect; said = quiet })
   acknowledged x turned quiet known turn none of = turned-so turned quiet (rw (of known) at turn) none
 
   ignored : (quiet : Said) (h : Handled) → rally < kind → quiet ≡ said noReply 0 0 → h ≡ record { effect = Nothing; said = quiet }
-      → DoneBy (knownDone words (p ∷ q ∷ s ∷ []) current store from clock kind (acknowledges result)) store b b h
+      → DoneBy (knownDone words home (p ∷ q ∷ s ∷ []) current store from clock kind (acknowledges result)) store b b h
   unfolding ackTurned ownUpload
   ignored quiet h more none is = rw is (turned-so (keeps Silent) quiet (rw (above p q s kind more)) none)
 
@@ -63,7 +63,7 @@ only-requires : tie.Need-only-requires
 only-requires c κs = search needs
 
 returns : tie.Need-returns
-returns c p q s current store clock b of = search (ignored, needs)
+returns c home p q s current store clock b of = search (ignored, needs)
 
 on-ack-requires : tie.Need-on-ack-requires
 on-ack-requires c κs = search needs
@@ -72,7 +72,7 @@ silent-requires-2 : tie.Need-silent-requires-2
 silent-requires-2 c κs = search needs
 
 returns-2 : tie.Need-returns-2
-returns-2 c p q s current store clock b of = search (acknowledged, needs)
+returns-2 c home p q s current store clock b of = search (acknowledged, needs)
 
 pub acknowledge-spec : {M : Type 1} → statement M
 acknowledge-spec =

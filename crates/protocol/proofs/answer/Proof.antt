@@ -9,6 +9,7 @@ use Rattle.rules.specs.Limits.{rally, everyKind, unsupported}
 use Rattle.rules.specs.Payload.{Bytes}
 use Rattle.rules.specs.Layouts.{setCurrentId, clearAllId, ackId}
 use Rattle.rules.specs.Messages.{Station, ack, messageOf, decode}
+use Rattle.rules.specs.Model.{flown}
 use Rattle.rules.specs.Calls.{Request, chooses, clears, acknowledges, isKnown}
 use Rattle.rules.specs.Step.{says, kindOk}
 use Rattle.wire.specs.declared.structs.SetCurrent.{SetCurrent}
@@ -43,13 +44,13 @@ module _ (kind id : ℕ) (ok : Bool) (oks : (payload : Bytes) → ok ≡ kindOk 
     plan-ranged : (x p q r : Plan) → IsPlanOf kind x p q r → plansRanged p q r ≡ true → PlanRanges kind x
     plan-ranged x p q r of ranged = subst (PlanRanges kind) (sym (of known-kind)) (plan-ranges p q r ranged kind known-kind)
 
-module _ (p q r : Plan) (current : ℕ) (s : Store) (from : Station) (clock kind id : ℕ) (own : Bytes) (ok : Bool)
+module _ (home : Bool) (p q r : Plan) (current : ℕ) (s : Store) (from : Station) (clock kind id : ℕ) (own : Bytes) (ok : Bool)
     (oks : (payload : Bytes) → ok ≡ kindOk kind (requestOf (decode id payload))) where
   abbrev plans : List Plan
   plans = p ∷ q ∷ r ∷ []
 
   abbrev Goal : (s′ : Store) (b b′ : Bytes) → Handled → Type 0
-  Goal = DoneBy (messageDone words plans current s from clock kind (requestOf (decode id own)))
+  Goal = DoneBy (messageDone words home plans current s from clock kind (requestOf (decode id own)))
 
   -- a kind that the message may not have
   unsupported-kind : (b b′ : Bytes) (said : Said) (h : Handled) → not ok ≡ true → Spoken (says (ack from unsupported kind 0)) b b′ said
@@ -61,36 +62,36 @@ module _ (p q r : Plan) (current : ℕ) (s : Store) (from : Station) (clock kind
 
   module _ (may : not ok ≡ false) where
     -- a kind that it may have: what its request does
-    allowed : (s′ : Store) (b b′ : Bytes) (h : Handled) → DoneBy (knownDone words plans current s from clock kind (requestOf (decode id own))) s′ b b′ h → Goal s′ b b′ h
+    allowed : (s′ : Store) (b b′ : Bytes) (h : Handled) → DoneBy (knownDone words home plans current s from clock kind (requestOf (decode id own))) s′ b b′ h → Goal s′ b b′ h
     unfolding messageDone
     allowed s′ b b′ h done =
         let t : kindOk kind (requestOf (decode id own)) ≡ true = sym (oks own) ∙ not-false ok may in
         rw t done
 
     by-request : (req : Request) (s′ : Store) (b b′ : Bytes) (h : Handled) → requestOf (decode id own) ≡ req
-        → DoneBy (knownDone words plans current s from clock kind req) s′ b b′ h → Goal s′ b b′ h
+        → DoneBy (knownDone words home plans current s from clock kind req) s′ b b′ h → Goal s′ b b′ h
     by-request req s′ b b′ h is done = allowed s′ b b′ h (rw is done)
 
     module _ (b b′ : Bytes) (h : Handled) where
-      sets-current : (m : SetCurrent) → id ≡ setCurrentId → setCurrentMessage m ≡ decode setCurrentId own
-          → Handles (chooseEffect p (m .seq)) (chooseAnswer p q r (m .seq)) b b′ h → Goal s b b′ h
+      sets-current : (m : SetCurrent) (n : ℕ) → id ≡ setCurrentId → setCurrentMessage m ≡ decode setCurrentId own → n ≡ flown home (m .seq)
+          → Handles (chooseEffect p n) (chooseAnswer p q r n) b b′ h → Goal s b b′ h
       unfolding knownDone
-      sets-current m e reads handles =
-          by-request (chooses (m .seq)) s b b′ h (rw e (ap requestOf (sym reads))) (record { handles = handles; store = refl })
+      sets-current m n e reads is handles =
+          by-request (chooses (m .seq)) s b b′ h (rw e (ap requestOf (sym reads))) (record { handles = rw (sym is) handles; store = refl })
 
       clears-all : id ≡ clearAllId → ((store : Store) → DoneBy (clearDone plans store from kind) store b b′ h) → Goal s b b′ h
       unfolding knownDone decode messageOf
       clears-all e done = by-request clears s b b′ h (rw e) (done s)
 
       turns-plan : (x : Plan) (s′ : Store) → (id ≡ setCurrentId → ⊥) → (id ≡ clearAllId → ⊥) → x ≡ planAmong plans kind
-          → DoneBy (planDone words x current s from clock kind (requestOf (decode id own))) s′ b b′ h → Goal s′ b b′ h
-      turns-plan x s′ n41 n45 is done = allowed s′ b b′ h (rw (of-one-plan plans current s from clock kind id own n41 n45, sym is) done)
+          → DoneBy (planDone words home x current s from clock kind (requestOf (decode id own))) s′ b b′ h → Goal s′ b b′ h
+      turns-plan x s′ n41 n45 is done = allowed s′ b b′ h (rw (of-one-plan home plans current s from clock kind id own n41 n45, sym is) done)
 
     acknowledged : (x : Plan) (b : Bytes) (h : Handled) (m : Ack) → id ≡ ackId → ackMessage m ≡ decode ackId own → IsPlanOf kind x p q r
-        → ((p′ q′ r′ : Plan) (current′ : ℕ) (store : Store) (clock′ : ℕ) (b₀ : Bytes) → IsPlanOf kind x p′ q′ r′
-        → DoneBy (knownDone words (p′ ∷ q′ ∷ r′ ∷ []) current′ store from clock′ kind (acknowledges (m .result))) store b₀ b₀ h)
+        → ((home′ : Bool) (p′ q′ r′ : Plan) (current′ : ℕ) (store : Store) (clock′ : ℕ) (b₀ : Bytes) → IsPlanOf kind x p′ q′ r′
+        → DoneBy (knownDone words home′ (p′ ∷ q′ ∷ r′ ∷ []) current′ store from clock′ kind (acknowledges (m .result))) store b₀ b₀ h)
         → Goal s b b h
-    acknowledged x b h m e reads of done = by-request (acknowledges (m .result)) s b b h (rw e (ap requestOf (sym reads))) (done p q r current s clock b of)
+    acknowledged x b h m e reads of done = by-request (acknowledges (m .result)) s b b h (rw e (ap requestOf (sym reads))) (done home p q r current s clock b of)
 
 kind-ok-requires : tie.Need-kind-ok-requires
 kind-ok-requires c κs = search needs
@@ -109,6 +110,9 @@ returns c = search (unsupported-kind, needs)
 
 read-set-current-requires : tie.Need-read-set-current-requires
 read-set-current-requires c κs = search needs
+
+flown-requires : tie.Need-flown-requires
+flown-requires c κs = search needs
 
 set-current-requires : tie.Need-set-current-requires
 set-current-requires c κs = search needs
@@ -165,7 +169,7 @@ returns-5 c =
     let oks = test .before .kind-ok .ensures in
     let pre = test .before .before .before .before .pre in
     let n45 = rest .0 .1 in
-    turns-plan _ _ _ _ _ _ _ _ _ _ _ oks (test .if1 .left) _ _ _ _ _ (rest .0 .0 .1) n45
+    turns-plan _ _ _ _ _ _ _ _ _ _ _ _ oks (test .if1 .left) _ _ _ _ _ (rest .0 .0 .1) n45
     (pre .0 (known-kind _ _ _ oks (test .if1 .left) n45 (rest .1))) (turned .turn .ensures)
 
 pub answer-spec : {M : Type 1} → statement M
@@ -178,6 +182,7 @@ answer-spec =
     same-length
     returns
     read-set-current-requires
+    flown-requires
     set-current-requires
     clear-requires
     read-ack-requires

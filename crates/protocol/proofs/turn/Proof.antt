@@ -1,7 +1,7 @@
 -- Each id's message is the request that its struct reads as, and its own function answers it: one lemma a way.
 use Prim.Native.Nat.{ℕ}
 use mathlib.Core.Path.{_≡_, refl, sym, ap}
-use mathlib.Core.Bool.{true}
+use mathlib.Core.Bool.{Bool, true}
 use Rattle.rules.specs.Limits.{sizeOf}
 use Rattle.rules.specs.Payload.{Bytes}
 use Rattle.rules.specs.Layouts.{partialListId, setCurrentId, requestListId, countId, clearAllId, ackId, requestIntId, itemIntId}
@@ -30,12 +30,12 @@ use borrow.Author.Needs.{needs}
 use Rattle.protocol.proofs.turn.Statement.{statement}
 use Rattle.protocol.proofs.turn.Tie as tie
 
-module _ (p : Plan) (current : ℕ) (s : Store) (from : Station) (clock kind id : ℕ) (own : Bytes) where
+module _ (home : Bool) (p : Plan) (current : ℕ) (s : Store) (from : Station) (clock kind id : ℕ) (own : Bytes) where
   abbrev Goal : (s′ : Store) (b b′ : Bytes) → Handled → Type 0
-  Goal = DoneBy (planDone words p current s from clock kind (requestOf (decode id own)))
+  Goal = DoneBy (planDone words home p current s from clock kind (requestOf (decode id own)))
 
   -- what the request does that the message reads as
-  by-request : (req : Request) (s′ : Store) (b b′ : Bytes) (r : Handled) → requestOf (decode id own) ≡ req → DoneBy (planDone words p current s from clock kind req) s′ b b′ r → Goal s′ b b′ r
+  by-request : (req : Request) (s′ : Store) (b b′ : Bytes) (r : Handled) → requestOf (decode id own) ≡ req → DoneBy (planDone words home p current s from clock kind req) s′ b b′ r → Goal s′ b b′ r
   by-request req s′ b b′ r is done = rw is done
 
   module _ (b b′ : Bytes) (r : Handled) where
@@ -67,7 +67,7 @@ module _ (p : Plan) (current : ℕ) (s : Store) (from : Station) (clock kind id 
     module _ (read : isRead (decode id own) ≡ true) (n41 : id ≡ setCurrentId → ⊥) (n45 : id ≡ clearAllId → ⊥) (n47 : id ≡ ackId → ⊥)
         (n43 : id ≡ requestListId → ⊥) (n44 : id ≡ countId → ⊥) (n38 : id ≡ partialListId → ⊥) (n51 : id ≡ requestIntId → ⊥) where
       brings-item : (m : ItemInt) (s′ : Store) (turned : Turned) → itemIntMessage m ≡ decode itemIntId own
-          → turnWith turned s′ ≡ itemTurned words s kind (p .upload) p from clock (patterns (m .item))
+          → turnWith turned s′ ≡ itemTurned words home s kind (p .upload) p from clock (patterns (m .item))
           → Handles (turned .effect) (answerOf (turned .say) from kind) b b′ r → Goal s′ b b′ r
       unfolding planDone
       brings-item m s′ turned reads turn handles =
@@ -160,7 +160,7 @@ returns-5 c =
     let read = taken .before .before .before in
     let rest = read .before .match .rest in
     let pre = read .before .before .before .before .pre .1 in
-    brings-item _ _ _ _ _ _ _ _ _ _ _ (pre .0) (pre .1) (pre .2) (pre .3) (rest .0 .0 .0 .1) (rest .0 .0 .1) (rest .0 .1) (rest .1)
+    brings-item _ _ _ _ _ _ _ _ _ _ _ _ (pre .0) (pre .1) (pre .2) (pre .3) (rest .0 .0 .0 .1) (rest .0 .0 .1) (rest .0 .1) (rest .1)
     (read .read-item-int .result) _ _ (read .read-item-int .ensures .0) (taken .take-item .ensures) (told .told3 .ensures)
 
 pub turn-spec : {M : Type 1} → statement M

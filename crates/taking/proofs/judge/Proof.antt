@@ -1,5 +1,6 @@
 -- The pattern says which upload it is; a running one has its own function.
 use mathlib.Core.Path.{_≡_}
+use mathlib.Core.Bool.{Bool}
 use Prim.Native.Nat.{ℕ}
 use Rattle.rules.specs.Limits.{invalidSequence}
 use Rattle.places.specs.Forms.{Store}
@@ -15,12 +16,12 @@ use borrow.Author.Needs.{needs}
 use Rattle.taking.proofs.judge.Statement.{statement}
 use Rattle.taking.proofs.judge.Tie as tie
 
-module _ (s : Store) (kind : ℕ) (u : Upload) (p : Plan) (from : Station) (item : Item) where
-  idle : u ≡ Idle → Refused invalidSequence ≡ judgedAs s kind u p from item
+module _ (home : Bool) (s : Store) (kind : ℕ) (u : Upload) (p : Plan) (from : Station) (item : Item) where
+  idle : u ≡ Idle → Refused invalidSequence ≡ judgedAs home s kind u p from item
   unfolding judgedAs
   idle e = rw e
 
-  running : (r : Run) (j : Judged) → u ≡ Running r → j ≡ judgedAs s kind (Running r) p from item → j ≡ judgedAs s kind u p from item
+  running : (r : Run) (j : Judged) → u ≡ Running r → j ≡ judgedAs home s kind (Running r) p from item → j ≡ judgedAs home s kind u p from item
   running r j e ej = rw (e, ej)
 
 enum-told : tie.Need-enum-told

@@ -17,22 +17,22 @@ use borrow.Author.Needs.{needs}
 use Rattle.taking.proofs.judge_running.Statement.{statement}
 use Rattle.taking.proofs.judge_running.Tie as tie
 
-module _ (s : Store) (kind : ℕ) (p : Plan) (r : Run) (from : Station) (item : Item) (b : Bool) (is : b ≡ sameStation from (stationIn r)) where
-  denies : not b ≡ true → Refused denied ≡ judgedAs s kind (Running r) p from item
+module _ (home : Bool) (s : Store) (kind : ℕ) (p : Plan) (r : Run) (from : Station) (item : Item) (b : Bool) (is : b ≡ sameStation from (stationIn r)) where
+  denies : not b ≡ true → Refused denied ≡ judgedAs home s kind (Running r) p from item
   unfolding judgedAs
   denies e = simp (← is, e)
 
-  out-of-turn : not b ≡ false → (item .seq ≡ r .next → ⊥) → OutOfTurn (r .next) ≡ judgedAs s kind (Running r) p from item
+  out-of-turn : not b ≡ false → (item .seq ≡ r .next → ⊥) → OutOfTurn (r .next) ≡ judgedAs home s kind (Running r) p from item
   unfolding judgedAs
   out-of-turn e other = simp (← is, e, ne-eqb (item .seq) (r .next) other)
 
-  fails : (result : ℕ) → not b ≡ false → item .seq ≡ r .next → result ≡ itemVerdict words s kind p r item → (result ≡ accepted → ⊥)
-      → Invalid result ≡ judgedAs s kind (Running r) p from item
+  fails : (result : ℕ) → not b ≡ false → item .seq ≡ r .next → result ≡ itemVerdict words home s kind p r item → (result ≡ accepted → ⊥)
+      → Invalid result ≡ judgedAs home s kind (Running r) p from item
   unfolding judgedAs
   fails result e own er bad = simp (← is, e, eq-eqb (item .seq) (r .next) own, ← er, ne-eqb result accepted bad)
 
-  passes : (result : ℕ) → not b ≡ false → item .seq ≡ r .next → result ≡ itemVerdict words s kind p r item → result ≡ accepted
-      → Valid r ≡ judgedAs s kind (Running r) p from item
+  passes : (result : ℕ) → not b ≡ false → item .seq ≡ r .next → result ≡ itemVerdict words home s kind p r item → result ≡ accepted
+      → Valid r ≡ judgedAs home s kind (Running r) p from item
   unfolding judgedAs
   passes result e own er good = simp (← is, e, eq-eqb (item .seq) (r .next) own, ← er, eq-eqb result accepted good)
 

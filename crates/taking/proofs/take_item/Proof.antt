@@ -1,6 +1,6 @@
 -- The step is `turnedAs` of the judgement, and each pattern says which judgement it is.
 use mathlib.Core.Path.{_≡_, _∙_, sym, ap}
-use mathlib.Core.Bool.{true, not}
+use mathlib.Core.Bool.{Bool, true, not}
 use Prim.Native.Nat.{ℕ, _≤_, _<_}
 use native.Mathlib.Omega.{arith}
 use lib.ListN.{length}
@@ -24,12 +24,12 @@ use borrow.Author.Needs.{needs}
 use Rattle.taking.proofs.take_item.Statement.{statement}
 use Rattle.taking.proofs.take_item.Tie as tie
 
-module _ (s : Store) (kind : ℕ) (p : Plan) (from : Station) (now : ℕ) (item : Item) (j : Judged) (is : j ≡ judgedAs s kind (p .upload) p from item) where
+module _ (home : Bool) (s : Store) (kind : ℕ) (p : Plan) (from : Station) (now : ℕ) (item : Item) (j : Judged) (is : j ≡ judgedAs home s kind (p .upload) p from item) where
   abbrev step : TurnAndStore
-  step = itemTurned words s kind (p .upload) p from now item
+  step = itemTurned words home s kind (p .upload) p from now item
 
   as-judged : (k : Judged) → j ≡ k → turnedAs k s kind p now item ≡ step
-  as-judged k e = sym (turned-judged s kind (p .upload) p from now item ∙ ap (λ (x : Judged). turnedAs x s kind p now item) (sym is ∙ e))
+  as-judged k e = sym (turned-judged home s kind (p .upload) p from now item ∙ ap (λ (x : Judged). turnedAs x s kind p now item) (sym is ∙ e))
 
   refused : (result : ℕ) (t : Turned) → j ≡ Refused result → t ≡ keeps (Ack result 0) → turnWith t s ≡ step
   unfolding turnedAs
@@ -51,7 +51,7 @@ module _ (s : Store) (kind : ℕ) (p : Plan) (from : Station) (now : ℕ) (item 
   -- the upload's place is in the store, and the store keeps its length
   module _ (ranged : uploadRanged (sizeOf kind) (p .len) (p .upload) ≡ true) where
     in-range : (r : Run) → j ≡ Valid r → InRange (sizeOf kind) (p .len) r
-    in-range r e = running-in-range (sizeOf kind) (p .len) (p .upload) r ranged (valid-running s kind (p .upload) p from item r (sym is ∙ e))
+    in-range r e = running-in-range (sizeOf kind) (p .len) (p .upload) r ranged (valid-running home s kind (p .upload) p from item r (sym is ∙ e))
 
     place : (r : Run) (k : ℕ) → j ≡ Valid r → k ≤ r .next → k < sizeOf kind
     place r k e upto = let below = next-within (sizeOf kind) (p .len) r (in-range r e) in omega arith
