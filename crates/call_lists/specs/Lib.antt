@@ -3,5 +3,6 @@ pub mod Uploads
 pub mod Tracks
 pub mod Rules
 pub mod Corollaries
+pub mod Home
 pub mod Worked
 pub mod Laws
