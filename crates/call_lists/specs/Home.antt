@@ -1,7 +1,7 @@
 -- Where item 0 is home, (M-109) it "is never flown": no answer carries its number, no search stands at it, and it is never begun.
 use Prim.Native.Nat.{ℕ, zero, suc, _+_, _≤_}
 use native.Mathlib.Omega.{arith}
-use mathlib.Core.Path.{_≡_, refl, sym, ap, subst, _∙_}
+use mathlib.Core.Path.{_≡_, sym, subst}
 use mathlib.Core.List.{List, [], _∷_, _++_, append-assoc, append-nil}
 use mathlib.Core.Bool.{Bool, true, false, true≢false, not, cond, _&&_}
 use lib.ListN.{length, getD, take, drop}
@@ -11,7 +11,7 @@ use Rattle.rules.specs.Limits.{flight, maxFollowed, accepted}
 use Rattle.rules.specs.Payload.{Bytes}
 use Rattle.rules.specs.Messages.{Item, itemIn}
 use Rattle.rules.specs.Values.{float, wholeOf}
-use Rattle.rules.specs.Items.{delay, distance, yaw, changeSpeed, setServo, isJump, jumpsAmong, targetIn, fault}
+use Rattle.rules.specs.Items.{delay, distance, yaw, changeSpeed, setServo, isJump, jumpsAmong, fault}
 use Rattle.rules.specs.Model.{Plan, Shown, Model, planOf, uploadOf, nextNumber, fresh, inRange, withPlan, put, emptied, empty, flown, choose}
 use Rattle.rules.specs.NextCommand.{Command, fly, wait, near, turn, speed, servo, finished, stuck, commandOf, targetOf, repeatOf, passedOver, Met, ends, stands, follows, meets, searchFrom, Found, nowhere, found, settle, countsAfter, search, next, reach, answerOf, advance}
 use Rattle.rules.specs.Calls.{Call, Heard, refuses, request, expiry, commandDone, heard}
@@ -19,7 +19,7 @@ use Rattle.rules.specs.Step.{commandIn, onMessage, onTimer, act, step, run}
 use Rattle.rule_laws.specs.Tests.{either, either₂}
 use Rattle.rule_laws.specs.Refused.{plain-stuck, message-plain, timer-plain}
 use Rattle.rule_laws.specs.Valid.{valid-jump, target-flown}
-use Rattle.call_lists.specs.Uploads.{shownBy, answerTo, Completes, Stroke, uploaded, emptied as empties, chosen, movedOn, nothing}
+use Rattle.call_lists.specs.Uploads.{shownBy, answerTo, Stroke, uploaded, emptied as empties, chosen, movedOn, nothing}
 use Rattle.call_lists.specs.Laws.Setting.{setting}
 use Rattle.call_lists.specs.Rules.{only-strokes}
 

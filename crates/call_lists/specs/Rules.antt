@@ -23,7 +23,7 @@ use Rattle.call_lists.specs.Laws.Kept.{formed}
 use Rattle.call_lists.specs.Laws.Setting.{setting}
 use Rattle.call_lists.specs.Tracks.{one-more, toldRun, in-turn, open-runs, runs-open}
 
--- ---- one step of a model
+-- ---- what one call makes of a model
 
 -- the last item of a running upload
 completes-model :
@@ -35,6 +35,7 @@ unfolding act onMessage onKnown kindOk onItem onValidItem
 completes-model m k r known runs now item turn valid last ok =
     rw (known, runs, same-self (r .station), eq-eqb (item .seq) (expected r) turn, valid, eq-eqb (expected r) (r .task .last) last, ok)
 
+-- an empty upload at its count, an allowed clear
 count-empties : (m : Model) (o : Station) (now k : ℕ) → letIn (act m (request o now k (announces 0)) .answer) ≡ true → act m (request o now k (announces 0)) .model .shown ≡ empty (k ∷ []) (m .shown)
 unfolding act onMessage onKnown kindOk onCount
 count-empties m o now k =
@@ -70,7 +71,7 @@ part-let-in m o now k start end known most order below mine =
     let small = size-small k in
     rw (known, mine, lt-ltb start halfShort (omega arith), lt-ltb end halfShort (omega arith), le-leb start end order, lt-ltb end (lengthOf (m .shown) k) below)
 
--- ---- no refusal with 15 by a step that is heard
+-- ---- a call is refused with 15 for a number out of its range alone
 
 -- a refusal that is not 15
 abbrev Within : Heard → Type 0

@@ -1,6 +1,6 @@
--- The setting of a fresh start is never changed.
+-- No call changes the setting: (M-109) "demand 3 has it fixed for the whole run".
 use Prim.Native.Nat.{ℕ}
-use mathlib.Core.Path.{_≡_, refl, ap, _∙_}
+use mathlib.Core.Path.{_≡_, refl, _∙_}
 use mathlib.Core.List.{List, [], _∷_, _++_}
 use mathlib.Core.Bool.{Bool, not, _&&_}
 use lib.Dec.{eqb, ltb}
@@ -81,6 +81,7 @@ module _ (m : Model) where
   act-home (expiry now kind) = timer-home (uploadOf m kind) now kind
   act-home commandDone = reach-home (next (m .shown)) (m .shown)
 
+  -- no call changes it
   pub step-home : (c : Call) → step m c .model .shown .home ≡ m .shown .home
   unfolding step
   step-home c = act-home (heard (inRange m) c)
@@ -90,5 +91,6 @@ unfolding run
 run-home m [] = refl
 run-home m (c ∷ cs) = run-home (step m c .model) cs ∙ step-home m c
 
+-- After every list of calls the setting is the one "chosen at the fresh start".
 pub setting : (home : Bool) (cs : List Call) → run (fresh home) cs .shown .home ≡ home
 setting home cs = run-home (fresh home) cs
