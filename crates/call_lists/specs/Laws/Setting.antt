@@ -39,9 +39,9 @@ module _ (m : Model) where
     part-home start end =
         either Same (isOthers from (uploadOf m kind)) (λ t. refl) (λ t. either Same (not (partOk (lengthOf (m .shown) kind) start end)) (λ t. refl) (λ t. refl))
 
-    onValidItem-home : (r : Run) (b : Bytes) → Same (onValidItem m from now kind r b)
+    valid-home : (r : Run) (b : Bytes) → Same (onValidItem m from now kind r b)
     unfolding onValidItem put withPlan
-    onValidItem-home r b =
+    valid-home r b =
         let verdict = wholeFault kind (r .task) (whole (r .task) (planOf (m .shown) kind .items) (r .taken ++ (b ∷ []))) in
         either Same (not (isLast r)) (λ t. refl) (λ t. either Same (eqb verdict accepted) (λ t. refl) (λ t. refl))
 
@@ -51,7 +51,7 @@ module _ (m : Model) where
     item-home (running r) item =
         let verdict = verdictOn (m .shown .home) kind (r .task) (expected r) (r .taken) item in
         either Same (not (sameStation from (r .station))) (λ t. refl)
-        (λ t. either Same (not (eqb (item .seq) (expected r))) (λ t. refl) (λ t. either Same (not (eqb verdict accepted)) (λ t. refl) (λ t. onValidItem-home r (itemOf item))))
+        (λ t. either Same (not (eqb (item .seq) (expected r))) (λ t. refl) (λ t. either Same (not (eqb verdict accepted)) (λ t. refl) (λ t. valid-home r (itemOf item))))
 
     known-home : (q : Request) → Same (onKnown m from now kind q)
     unfolding onKnown onSetCurrent onList onRequest onAck onClear choose
