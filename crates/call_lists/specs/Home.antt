@@ -50,16 +50,24 @@ carries-own n item i =
 
 -- ---- the search
 
--- what is met: the end with no number 0, an item after home, or a jump to one
+-- what is met: an end that does not carry 0, an item after home, or a jump to one
 abbrev MetFlown : Met → Type 0
 MetFlown (ends c) = Carries c 0 → ⊥
 MetFlown (stands n item) = 1 ≤ n
 MetFlown (follows j item) = 1 ≤ targetOf item
 
--- what is found is an item after home, and the answer has not number 0
+-- what is found is an item after home, and the answer does not carry 0
 abbrev pub FoundFlown : Found → Type 0
 FoundFlown (nowhere c) = Carries c 0 → ⊥
 FoundFlown (found n counts c) = (1 ≤ n) × (Carries c 0 → ⊥)
+
+settle-flown :
+    (m : Met) (counts : List ℕ) (follow : ℕ → Item → Found) → MetFlown m → ((j : ℕ) (item : Item) → 1 ≤ targetOf item → FoundFlown (follow j item))
+    → FoundFlown (settle m counts follow)
+unfolding settle
+settle-flown (ends c) counts follow met on = met
+settle-flown (stands n item) counts follow met on = (met, λ e. let zero = carries-own n item 0 e in omega arith)
+settle-flown (follows j item) counts follow met on = on j item met
 
 module _ (home : Bool) (is : home ≡ true) where
   -- (M-109) "a search that would begin at 0 begins at 1"
@@ -79,12 +87,6 @@ module _ (home : Bool) (is : home ≡ true) where
       (λ jumps. either MetFlown (passedOver (repeatOf item) (getD counts j 0)) (λ t. later)
       (λ t. let target = valid-jump home size n j item (eqb-true (fault home flight size n j item) accepted (not-false valid good)) (not-false (isJump item) jumps) .target in
       target-flown size n (wholeOf (float (item .param1))) (rw is at target))))
-
-  settle-flown : (m : Met) (counts : List ℕ) (follow : ℕ → Item → Found) → MetFlown m → ((j : ℕ) (item : Item) → 1 ≤ targetOf item → FoundFlown (follow j item)) → FoundFlown (settle m counts follow)
-  unfolding settle
-  settle-flown (ends c) counts follow met on = met
-  settle-flown (stands n item) counts follow met on = (met, λ e. let zero = carries-own n item 0 e in omega arith)
-  settle-flown (follows j item) counts follow met on = on j item met
 
   search-flown : (left : ℕ) (items : List Bytes) (counts : List ℕ) (n : ℕ) → 1 ≤ n → FoundFlown (search home left items counts n)
   unfolding search
