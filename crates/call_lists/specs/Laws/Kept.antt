@@ -10,7 +10,7 @@ use borrow.Author.Tests.{leb-true, leb-false, ltb-true, ltb-false, le-leb, lt-lt
 use Rattle.rules.specs.Limits.{flight, rally, sizeOf, halfShort, maxRepeats, expiryMs, accepted, storeWords, replyBytesMin}
 use Rattle.rules.specs.Payload.{Bytes}
 use Rattle.rules.specs.Messages.{Station, sameStation, Item, Message, partialList, setCurrent, current, requestList, count, clearAll, ack, requestInt, itemInt, statustext, unknown, decode, itemOf}
-use Rattle.rules.specs.Model.{Plan, Run, Upload, idle, running, Model, planOf, uploadOf, lengthOf, fresh, nextNumber, elapsed, Task, wholeTask, partTask, taskInRange, expected, isLast, verdictOn, whole, wholeFault, isOthers, isOwn, put, uploadInRange, inRange}
+use Rattle.rules.specs.Model.{Plan, Run, Upload, idle, running, Model, planOf, uploadOf, lengthOf, fresh, nextNumber, elapsed, Task, wholeTask, partTask, taskInRange, expected, isLast, verdictOn, whole, wholeFault, isOthers, isOwn, flown, put, uploadInRange, inRange}
 use Rattle.rules.specs.Calls.{Call, message, timer, done, Request, chooses, asksList, announces, changes, clears, acknowledges, asksItem, brings, Heard, refuses, request, expiry, commandDone, isKnown, oursOrAll, heardMessage, forUs, heard}
 use Rattle.rules.specs.Step.{Stepped, withUpload, opens, onCount, partOk, onPartial, onValidItem, onItem, onAck, onClear, anyOthers, covered, onList, onRequest, onSetCurrent, onKnown, kindOk, onMessage, onTimer, act, step, run}
 use Rattle.rule_laws.specs.Tests.{both, either}
@@ -107,7 +107,7 @@ module _ (m : Model) (f : Formed m) (from : Station) (now kind : ℕ) (known : i
   unfolding onItem
   item-kept idle e turn item = f
   item-kept (running r) e turn item =
-      let verdict = verdictOn kind (r .task) (expected r) (r .taken) item in
+      let verdict = verdictOn (m .shown .home) kind (r .task) (expected r) (r .taken) item in
       either Kept (not (sameStation from (r .station))) (λ t. f)
       (λ t. either Kept (not (eqb (item .seq) (expected r))) (λ t. f)
       (λ t. either Kept (not (eqb verdict accepted)) (λ t. ended-kept) (λ t. valid-kept r (itemOf item) (run-ranges kind (lengthOf (m .shown) kind) r e) turn)))
@@ -145,7 +145,7 @@ unfolding onMessage onKnown onSetCurrent onList onRequest onClear kindOk
 message-kept m f from now kind r = either Kept (kindOk kind r) (go r) (λ t. f)
   where
     go : (r : Request) → kindOk kind r ≡ true → Kept (onKnown m from now kind r)
-    go (chooses seq) k = either Kept (ltb seq (lengthOf (m .shown) flight)) (λ below. choose-formed m seq below f) (λ t. f)
+    go (chooses seq) k = either Kept (ltb (flown (m .shown .home) seq) (lengthOf (m .shown) flight)) (λ below. choose-formed m (flown (m .shown .home) seq) below f) (λ t. f)
     go asksList k = f
     go (announces n) k = count-kept m f from now kind k n
     go (changes start end) k = part-kept m f from now kind k start end
@@ -211,8 +211,8 @@ run-kept m [] f = f
 run-kept m (c ∷ cs) f = run-kept (step m c .model) cs (step-kept m c f)
 
 -- from a fresh start every model is formed, and a step is what the call says
-pub formed : (cs : List Call) → Formed (run fresh cs)
-formed cs = run-kept fresh cs fresh-formed
+pub formed : (home : Bool) (cs : List Call) → Formed (run (fresh home) cs)
+formed home cs = run-kept (fresh home) cs (fresh-formed home)
 
 pub step-heard : (m : Model) (c : Call) → Formed m → step m c ≡ act m (heard true c)
 unfolding step
