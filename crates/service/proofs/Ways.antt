@@ -15,7 +15,7 @@ use Rattle.rules.specs.Limits.{flight, fence, rally, kinds, sizeOf, storeWords,
 use Rattle.rules.specs.Payload.{Bytes}
 use Rattle.rules.specs.Messages.{Station, Message, decode}
 use Rattle.rules.specs.Model as model
-use Rattle.rules.specs.Model.{inRange, elapsed, noCounts}
+use Rattle.rules.specs.Model.{inRange, elapsed, noCounts, flown}
 use Rattle.rules.specs.NextCommand as rules
 use Rattle.rules.specs.Calls.{Call, message, timer, done, Request, request, expiry, commandDone, heard}
 use Rattle.rules.specs.Step.{orders, commandIn, onMessage, onTimer}
@@ -70,21 +70,22 @@ three-plans (a ∷ b ∷ c ∷ d ∷ l) three = absurd (omega arith)
 
 -- all of them emptied, one after the other
 all-emptied :
-    (l : List Plan) → length l ≡ length kinds → (current : ℕ) (begun : Bool) (counts : List ℕ)
+    (l : List Plan) → length l ≡ length kinds → (current : ℕ) (begun home : Bool) (counts : List ℕ)
     → _≡_ {A = State}
     (record {
       plans = emptied (getD l flight emptyPlan) ∷ emptied (getD l fence emptyPlan) ∷ emptied (getD l rally emptyPlan) ∷ [];
-      current = freshState .current;
-      begun = freshState .begun;
-      counts = freshState .counts;
+      current = freshState home .current;
+      begun = freshState home .begun;
+      home = freshState home .home;
+      counts = freshState home .counts;
     })
-    (emptiedState (record { plans = l; current = current; begun = begun; counts = counts }) kinds)
+    (emptiedState (record { plans = l; current = current; begun = begun; home = home; counts = counts }) kinds)
 unfolding renewedState
-all-emptied (a ∷ b ∷ c ∷ []) three current begun counts = refl
-all-emptied [] three current begun counts = absurd (omega arith)
-all-emptied (a ∷ []) three current begun counts = absurd (omega arith)
-all-emptied (a ∷ b ∷ []) three current begun counts = absurd (omega arith)
-all-emptied (a ∷ b ∷ c ∷ d ∷ l) three current begun counts = absurd (omega arith)
+all-emptied (a ∷ b ∷ c ∷ []) three current begun home counts = refl
+all-emptied [] three current begun home counts = absurd (omega arith)
+all-emptied (a ∷ []) three current begun home counts = absurd (omega arith)
+all-emptied (a ∷ b ∷ []) three current begun home counts = absurd (omega arith)
+all-emptied (a ∷ b ∷ c ∷ d ∷ l) three current begun home counts = absurd (omega arith)
 
 -- the result of a message or a timer call: this state, and what was said
 abbrev served : State → Handled → Served
@@ -162,7 +163,7 @@ plan-at st three kind place stands known =
 module _ (st : State) (s : Store) (b : Bytes) (own from : Station) (id : ℕ) (p : Bytes) (clock : ℕ) (got : Received) (taken : MessageTaken st s b own from id p clock got)
     (s′ : Store) (b′ : Bytes) (h : Handled)
     (by :
-    DoneBy (messageDone words (planOf st flight ∷ planOf st fence ∷ planOf st rally ∷ []) (st .current) s from clock (got .head .kind) (requestOf (decode id (got .own))))
+    DoneBy (messageDone words (st .home) (planOf st flight ∷ planOf st fence ∷ planOf st rally ∷ []) (st .current) s from clock (got .head .kind) (requestOf (decode id (got .own))))
     s′ b b′ h) where
   abbrev c : Call
   c = message own from id p clock (length s) (length b)
@@ -173,13 +174,13 @@ module _ (st : State) (s : Store) (b : Bytes) (own from : Station) (id : ℕ) (p
   abbrev q : Request
   q = requestOf (decode id (got .own))
 
-  done-by : DoneBy (messageDone words (st .plans) (st .current) s from clock k q) s′ b b′ h
+  done-by : DoneBy (messageDone words (st .home) (st .plans) (st .current) s from clock k q) s′ b b′ h
   done-by = rw (three-plans (st .plans) (taken .three)) at by
 
   message-serves : (e : Effect) → h .effect ≡ e → Serves c st s s′ b b′ (servedResult (served (applied st k e) h))
   message-serves e is =
       let agree = message-agrees words words-lawful st s (taken .three) (taken .long) (taken .ranges) from clock k q (request-kind (inRange (view st s)) c (taken .says)) in
-      applied-serves c st s s′ b b′ k (messageDone words (st .plans) (st .current) s from clock k q) h
+      applied-serves c st s s′ b b′ k (messageDone words (st .home) (st .plans) (st .current) s from clock k q) h
       (message-steps words words-lawful c st s (taken .three) (taken .ranges) (taken .long) from clock k q (taken .says))
       (ap commandIn (agree .answer) ∙ plain-stuck (onMessage (view st s) from clock k q .answer) (message-plain (view st s) from clock k q))
       done-by e is
@@ -191,12 +192,12 @@ module _ (st : State) (s : Store) (b : Bytes) (own from : Station) (id : ℕ) (p
   message-chooses seq is = message-serves (Chooses seq) is
 
   pub message-empties :
-      (x y z : Plan) (begins : State) → begins ≡ freshState → h .effect ≡ EmptiesAll
+      (x y z : Plan) (begins : State) → begins ≡ freshState (st .home) → h .effect ≡ EmptiesAll
       → x ≡ emptied (planOf st flight) → y ≡ emptied (planOf st fence) → z ≡ emptied (planOf st rally)
-      → Serves c st s s′ b b′ (servedResult (served (record { plans = x ∷ y ∷ z ∷ []; current = begins .current; begun = begins .begun; counts = begins .counts }) h))
+      → Serves c st s s′ b b′ (servedResult (served (record { plans = x ∷ y ∷ z ∷ []; current = begins .current; begun = begins .begun; home = begins .home; counts = begins .counts }) h))
   message-empties x y z begins new is ex ey ez =
       rw (new, ex, ey, ez)
-      (subst (λ (t : State). Serves c st s s′ b b′ (servedResult (served t h))) (sym (all-emptied (st .plans) (taken .three) (st .current) (st .begun) (st .counts)))
+      (subst (λ (t : State). Serves c st s s′ b b′ (servedResult (served t h))) (sym (all-emptied (st .plans) (taken .three) (st .current) (st .begun) (st .home) (st .counts)))
       (message-serves EmptiesAll is))
 
   -- a plan that is put in is of a known kind, and stands at its place
@@ -214,8 +215,8 @@ module _ (st : State) (s : Store) (b : Bytes) (own from : Station) (id : ℕ) (p
         (rw (ne-eqb k flight other) at (message-serves (Renews plan) is))
 
     pub message-restarts :
-        (begins : State) → begins ≡ freshState → h .effect ≡ Renews plan → k ≡ flight
-        → Serves c st s s′ b b′ (servedResult (served (record { plans = set (st .plans) place plan; current = begins .current; begun = begins .begun; counts = begins .counts }) h))
+        (begins : State) → begins ≡ freshState (st .home) → h .effect ≡ Renews plan → k ≡ flight
+        → Serves c st s s′ b b′ (servedResult (served (record { plans = set (st .plans) place plan; current = begins .current; begun = begins .begun; home = begins .home; counts = begins .counts }) h))
     unfolding renewedState
     message-restarts begins new is first =
         rw (new, stands (leb-true k rally (effect-ok (Renews plan) is .0)))
@@ -229,7 +230,7 @@ module _ (st : State) (s : Store) (b : Bytes) (own from : Station) (id : ℕ) (p
 
     pub message-recounts :
         h .effect ≡ Changes plan → k ≡ flight
-        → Serves c st s s′ b b′ (servedResult (served (record { plans = set (st .plans) place plan; current = st .current; begun = st .begun; counts = noCounts }) h))
+        → Serves c st s s′ b b′ (servedResult (served (record { plans = set (st .plans) place plan; current = st .current; begun = st .begun; home = st .home; counts = noCounts }) h))
     unfolding renewedState
     message-recounts is first =
         rw (stands (leb-true k rally (effect-ok (Changes plan) is .0)))
@@ -353,7 +354,8 @@ module _ (st : State) (s : Store) (ranged : Bool) (outcome : ℕ) (test : ranged
 module _ (st : State) (s : Store) (taken : DoneTaken st s) (f : Found)
     (finds :
     foundOf f
-    ≡ rules.search maxFollowed (itemsIn words s (planOf st flight .half) flight (planOf st flight .len)) (st .counts) (cond (st .begun) (st .current + 1) (st .current))) where
+    ≡ rules.search (st .home) maxFollowed (itemsIn words s (planOf st flight .half) flight (planOf st flight .len)) (st .counts)
+    (flown (st .home) (cond (st .begun) (st .current + 1) (st .current)))) where
   ordered : OrderedBy st s (reachedState st (f .stands) (f .n) (f .counts)) (f .command)
   unfolding rules.next viewIn
   ordered = reaches st s f finds
@@ -370,7 +372,7 @@ module _ (st : State) (s : Store) (taken : DoneTaken st s) (f : Found)
 
   pub done-stands : f .stands ≡ true
       → Serves (done (length s)) st s s [] []
-      (advanceResult (record { state = record { plans = st .plans; current = f .n; begun = true; counts = f .counts }; outcome = noReply; command = f .command }))
+      (advanceResult (record { state = record { plans = st .plans; current = f .n; begun = true; home = st .home; counts = f .counts }; outcome = noReply; command = f .command }))
   done-stands is = done-serves true is
 
   pub done-stays : f .stands ≡ false → Serves (done (length s)) st s s [] [] (advanceResult (record { state = st; outcome = noReply; command = f .command }))

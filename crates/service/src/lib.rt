@@ -25,7 +25,7 @@ use refusal::timer_refusal;
 use upload::Effect;
 use upload::updates::emptied;
 
-// A fresh start: every plan empty, item 0 the current one and not begun.
+// A fresh start: every plan empty, item 0 the current one and not begun; whether it is home is chosen here, and nothing changes it later.
 pub use plan::fresh;
 
 // What a message or a timer call returns beside the store and the reply buffer: the state after it, its outcome, and the reply's id and length.
@@ -96,6 +96,7 @@ pub fn message(
     let k = place_of(kind);
     let plan = state.plans[k];
     let done = answer(
+        state.home,
         plan,
         flight,
         fence,
@@ -121,7 +122,7 @@ pub fn message(
             state.plans[k] = plan;
             if kind == FLIGHT {
                 let after = state.plans;
-                state = fresh();
+                state = fresh(state.home);
                 state.plans = after;
             }
         }
@@ -134,7 +135,7 @@ pub fn message(
         }
         Effect::EmptiesAll => {
             let after = [emptied(flight), emptied(fence), emptied(rally)];
-            state = fresh();
+            state = fresh(state.home);
             state.plans = after;
         }
         Effect::Chooses(seq) => {
@@ -200,7 +201,14 @@ pub fn advance(mut state: State, store: &[u32]) -> Advanced
         };
     }
     let counts = state.counts;
-    let found = next_command::next(store, flight, state.current, state.begun, counts);
+    let found = next_command::next(
+        state.home,
+        store,
+        flight,
+        state.current,
+        state.begun,
+        counts,
+    );
     if found.stands {
         let runs = found.counts;
         state.current = found.n;
