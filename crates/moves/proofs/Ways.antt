@@ -68,5 +68,5 @@ module _ (st : State) (old new : Store) (ranged : Bool) (outcome : ℕ)
     pub moves :
         (p q r : Plan) (new′ : Store) → p ≡ ended (planOf st flight) → q ≡ ended (planOf st fence) → r ≡ ended (planOf st rally)
         → new′ ≡ movedPlans old new (planOf st flight) (planOf st fence) (planOf st rally)
-        → MovesToWords st old new (record { plans = p ∷ q ∷ r ∷ []; current = st .current; begun = st .begun; counts = st .counts }) new′ outcome
+        → MovesToWords st old new (record { plans = p ∷ q ∷ r ∷ []; current = st .current; begun = st .begun; home = st .home; counts = st .counts }) new′ outcome
     moves p q r new′ ep eq er es = rw (ep, eq, er, es) moves-all

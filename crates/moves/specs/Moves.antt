@@ -40,6 +40,7 @@ moved m =
             current = m .shown .current;
             begun = m .shown .begun;
             counts = m .shown .counts;
+            home = m .shown .home;
           };
       uploads = map (λ (kind : ℕ). idle) kinds;
     }

@@ -88,6 +88,7 @@ endedState st =
       plans = ended (planOf st flight) ∷ ended (planOf st fence) ∷ ended (planOf st rally) ∷ [];
       current = st .current;
       begun = st .begun;
+      home = st .home;
       counts = st .counts;
     }
 
