@@ -29,7 +29,7 @@ fn main() {
     let mut old = [0u8; OLD_ARRAY];
     let mut old_copy = [0u8; OLD_ARRAY];
     // The state before a record and the state after it stand in two places in turn.
-    let first = service::fresh();
+    let first = service::fresh(false);
     let mut states = [first; 2];
     let mut which: usize = 0;
     let mut unread = Unread { at: 0, end: 0 };

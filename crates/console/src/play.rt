@@ -182,7 +182,7 @@ fn between(
         script::FRESH => {
             *store = [filled(r.b0); STORE_ARRAY];
             *old = [r.b0; OLD_ARRAY];
-            service::fresh()
+            service::fresh(r.b4 == script::HOME)
         }
         script::SNAP => {
             snap(r, store, copy, old, old_copy);

@@ -11,7 +11,7 @@ use Rattle.plan.specs.declared.State.{State}
 use Rattle.plan.specs.View.{planOf, view}
 use Rattle.text.specs.Words.{ascii}
 use Rattle.text.specs.Digits.{spaced}
-use Rattle.rows.specs.Rows.{begun}
+use Rattle.rows.specs.Rows.{begun, row}
 use Rattle.dump.specs.Plans.{kindText}
 
 abbrev pub flag : Bool → ℕ
@@ -21,12 +21,17 @@ flag b = cond b 1 0
 unfoldable pub currentLine : (current : ℕ) (begun : Bool) (counts : List ℕ) → Bytes
 currentLine current isBegun counts = begun 99 (current ∷ flag isBegun ∷ []) ++ (spaced counts ++ ascii "\n")
 
+-- (M-109) "With the setting DUMP ends with a line `h 1`; without it nothing more is printed"
+unfoldable pub homeLine : (home : Bool) → Bytes
+homeLine home = cond home (row 104 (1 ∷ [])) []
+
 unfoldable pub stateText : (halves : Bool) → State → Store → Bytes
 stateText halves st store =
     kindText halves flight (planOf st flight) store
     ++ (kindText halves fence (planOf st fence) store
     ++ (kindText halves rally (planOf st rally) store
-    ++ currentLine (st .current) (st .begun) (st .counts)))
+    ++ (currentLine (st .current) (st .begun) (st .counts)
+    ++ homeLine (st .home))))
 
 -- "Bit 0 of DUMP's b4 set: HALF is printed as `-`" (M-108): the options are that byte
 unfoldable pub dumpText : (options : ℕ) → State → Store → Bytes

@@ -1,4 +1,4 @@
-// The lines of a dump: the plans and uploads of each kind, and the current item.
+// The lines of a dump: the plans and uploads of each kind, the current item, and whether item 0 is home.
 mod plans;
 
 ghost use mathlib.Core.Path.{_≡_};
@@ -6,7 +6,7 @@ ghost use Rattle.rules.specs.Model.{inRange};
 ghost use Rattle.places.specs.Forms.{Store};
 ghost use Rattle.plan.specs.View.{view};
 ghost use Rattle.adding.specs.Added.{Adds};
-ghost use Rattle.dump.specs.Dumps.{currentLine, stateText, dumpText};
+ghost use Rattle.dump.specs.Dumps.{currentLine, homeLine, stateText, dumpText};
 use limits::FENCE;
 use limits::FLIGHT;
 use limits::JUMP_COUNTS;
@@ -31,6 +31,16 @@ fn put_current(
     text::put_byte(out, end, b'\n')
 }
 
+// Where item 0 is home a line says so; without the setting nothing is put.
+fn put_home(out: &mut [u8], at: usize, home: bool) -> usize
+    ensures { λ r. ⌜ Adds (homeLine home) (now (out .entry)) at (now (out .exit)) r ⌝ }
+{
+    if home {
+        return rows::put_row(out, at, b'h', &[1]);
+    }
+    text::within(at, out)
+}
+
 fn put_state(out: &mut [u8], at: usize, halves: bool, state: State, store: &[u32]) -> usize
     ensures { λ r. ⌜ Adds (stateText halves state (now (store .entry))) (now (out .entry)) at (now (out .exit)) r ⌝ }
 {
@@ -39,7 +49,8 @@ fn put_state(out: &mut [u8], at: usize, halves: bool, state: State, store: &[u32
     let end = put_kind(out, end, halves, FENCE, plans[1], store);
     let end = put_kind(out, end, halves, RALLY, plans[2], store);
     let counts = state.counts;
-    put_current(out, end, state.current, state.begun, counts)
+    let end = put_current(out, end, state.current, state.begun, counts);
+    put_home(out, end, state.home)
 }
 
 // Whether every number of a state is in its range, whatever the store holds.

@@ -65,9 +65,9 @@ pub state-set
     → current ≡ cond (eqb field 10) (v % 65536) (st .current)
     → begun ≡ cond (eqb field 11) (not (eqb v 0)) (st .begun)
     → counts ≡ pokedCounts (st .counts) field index v
-    → record { plans = plans; current = current; begun = begun; counts = counts } ≡ pokedState st field index v
+    → record { plans = plans; current = current; begun = begun; home = st .home; counts = counts } ≡ pokedState st field index v
 unfolding pokedState
-state-set st field index v plans current begun counts pp cc′ bb nn = λ i. record { plans = pp i; current = cc′ i; begun = bb i; counts = nn i }
+state-set st field index v plans current begun counts pp cc′ bb nn = λ i. record { plans = pp i; current = cc′ i; begun = bb i; home = st .home; counts = nn i }
 
 module _ (counts : List ℕ) (field index v : ℕ) where
   pub count-set : (eqb field 12 && ltb index maxJumps) ≡ true → set counts index (v % 65536) ≡ pokedCounts counts field index v

@@ -62,5 +62,6 @@ pokedState st field index v =
       plans = pokedPlans (st .plans) field index v;
       current = cond (eqb field 10) (v % 65536) (st .current);
       begun = cond (eqb field 11) (not (eqb v 0)) (st .begun);
+      home = st .home;
       counts = pokedCounts (st .counts) field index v;
     }

@@ -129,6 +129,7 @@ pub fn poked(state: State, field: u8, index: u8, value: u32) -> State
         plans: poked_plans(plans, field, index, value),
         current: set16(field == 10, value, state.current),
         begun: set_flag(field == 11, value != 0, state.begun),
+        home: state.home,
         counts: poked_counts(counts, field, index, value),
     }
 }

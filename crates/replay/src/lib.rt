@@ -74,7 +74,7 @@ pub extern "C" fn douzanelh_replay(calls: &[u8], store: &mut [u32], told: &mut [
     let mut reply_array = [0u8; REPLY_ARRAY];
     let reply: &mut [u8] = &mut reply_array;
     // The state before a call and the state after it stand in two places in turn.
-    let first = service::fresh();
+    let first = service::fresh(false);
     let mut states = [first; 2];
     let mut which: usize = 0;
     let mut sum: u64 = 0;

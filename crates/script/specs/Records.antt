@@ -68,12 +68,12 @@ bytesFit at len = leb (at + len) oldArray
 unfoldable pub writeFits : (to kind at len : ℕ) → Bool
 writeFits to kind at len = eqb to 0 && wordsFit at len || (eqb to 1 || eqb to 2) && itemsFit kind at len || eqb to 3 && bytesFit at len
 
--- MESSAGE 1, TIMER 2, DONE 3, DUMP 4; FRESH 5 without a setting; SNAP 6 and CMP 7 of the store array, "with b4 = 1" of B; POKE 8; WRITE 9; MOVE 18,
+-- MESSAGE 1, TIMER 2, DONE 3, DUMP 4; FRESH 5 with or without the setting, (M-109) "bit 0 of b4"; SNAP 6 and CMP 7 of the store array, "with b4 = 1" of B; POKE 8; WRITE 9; MOVE 18,
 -- "a above 26,880: `? 18`". "len above 300, store above [5,664], reply above 64 .. the program stops"
 unfoldable pub fits : Record → Bool
 fits r =
     (leb (r .kind) 4
-    || eqb (r .kind) 5 && eqb (r .b4) 0
+    || eqb (r .kind) 5 && leb (r .b4) 1
     || (eqb (r .kind) 6 || eqb (r .kind) 7) && leb (r .b4) 1
     || eqb (r .kind) 8 && pokeFits (r .b4) (r .b0)
     || eqb (r .kind) 9 && writeFits (r .b4) (r .b0) (r .a) (r .len)

@@ -34,6 +34,9 @@ pub const WRITE: u8 = 9;
 
 pub const MOVE: u8 = 18;
 
+// The setting that FRESH takes by b4, where it is not 0: item 0 is home.
+pub const HOME: u8 = 1;
+
 // What SNAP and CMP take by b4 in the place of the store array, which is 0: the byte array of the old store.
 pub const OLD: u8 = 1;
 
@@ -151,7 +154,7 @@ fn fits(r: Record) -> bool
     ensures { λ t. ⌜ t ≡ Records·fits r ⌝ }
 {
     let known = (r.kind <= DUMP)
-        | (r.kind == FRESH) & (r.b4 == 0)
+        | (r.kind == FRESH) & (r.b4 <= HOME)
         | ((r.kind == SNAP) | (r.kind == CMP)) & (r.b4 <= OLD)
         | (r.kind == POKE) & poke_fits(r.b4, r.b0)
         | (r.kind == WRITE) & write_fits(r.b4, r.b0, r.a, r.len)

@@ -25,16 +25,20 @@ put-kind-requires-3 c κs = search needs
 put-current-requires : tie.Need-put-current-requires
 put-current-requires c κs = search needs
 
+put-home-requires : tie.Need-put-home-requires
+put-home-requires c κs = search needs
+
 same-length : tie.Need-same-length
 same-length c = search needs
 
 returns : tie.Need-returns
 returns c =
-    let e = c .before .before in
+    let h = c .before .before in
+    let e = h .before .before .before .before in
     let r = e .before .before .before .before .before in
     let f = r .before .before .before .before .before in
     let g = f .before .before .before .before .before in
-    state-text _ (g .before .before .before .before .before .before .args .state) _ _ _ _ _ _ _ _ _ _ _ (g .put-kind .ensures) (f .put-kind2 .ensures) (r .put-kind3 .ensures) (e .put-current .ensures)
+    state-text _ (g .before .before .before .before .before .before .args .state) _ _ _ _ _ _ _ _ _ _ _ _ _ (g .put-kind .ensures) (f .put-kind2 .ensures) (r .put-kind3 .ensures) (e .put-current .ensures) (h .put-home .ensures)
 
 pub put-state-spec : {M : Type 1} → statement M
 put-state-spec =
@@ -47,5 +51,6 @@ put-state-spec =
     array-copy-out-put-kind-3
     put-kind-requires-3
     put-current-requires
+    put-home-requires
     same-length
     returns)
