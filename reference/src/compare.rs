@@ -9,7 +9,7 @@ use std::thread;
 use crate::fault::{Fault, FAULTS};
 use crate::generate::{scripts, Script};
 use crate::player::Player;
-use crate::script::{array, read_record, record, target, Next, Record};
+use crate::script::{array, read_record, record, target, Next, Record, HOME};
 
 /// The lines that one step of a script prints, and what was played.
 struct Step {
@@ -127,6 +127,7 @@ pub fn describe_record(record: &Record) -> String {
         record::TIMER => format!("TIMER kind {b4} clock {clock} store {store} reply {reply}"),
         record::DONE => format!("DONE store {store}"),
         record::DUMP => "DUMP".to_string(),
+        record::FRESH if b4 & HOME != 0 => format!("FRESH {b0:02X} home"),
         record::FRESH => format!("FRESH {b0:02X}"),
         record::SNAP => format!("SNAP {}", store_name(b4)),
         record::CMP => format!("CMP {}", store_name(b4)),

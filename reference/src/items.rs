@@ -4,6 +4,7 @@ use crate::fault::Fault;
 use crate::layout::Item;
 use crate::limits::*;
 
+pub const WAYPOINT: u16 = 16;
 pub const RETURN_HOME: u16 = 20;
 pub const LAND: u16 = 21;
 pub const DO_JUMP: u16 = 177;
@@ -38,6 +39,15 @@ pub struct Standing {
     pub count: u16,
     /// Items with command 177 before it.
     pub jumps_before: usize,
+    /// Whether item 0 of a flight plan is home (request M-109).
+    pub home: bool,
+}
+
+impl Standing {
+    /// Fence and rally have no home.
+    fn is_home(&self) -> bool {
+        self.home && self.kind == FLIGHT && self.number == 0
+    }
 }
 
 /// What a command asks of an item's params.
@@ -63,7 +73,7 @@ enum ParamRule {
 /// The table of commands: kind, whether positional, and the params' rule.
 fn command_rule(command: u16) -> Option<(usize, bool, ParamRule)> {
     Some(match command {
-        16 | 18 | 19 => (FLIGHT, true, ParamRule::Amount),
+        WAYPOINT | 18 | 19 => (FLIGHT, true, ParamRule::Amount),
         17 | LAND | 22 | 31 => (FLIGHT, true, ParamRule::Free),
         // Request M-101: frames as the commands below, x, y and z unchecked.
         RETURN_HOME => (FLIGHT, false, ParamRule::Free),
@@ -84,6 +94,9 @@ fn command_rule(command: u16) -> Option<(usize, bool, ParamRule)> {
 pub fn judge(item: &Item, standing: &Standing, fault: Fault) -> Result<(), u8> {
     let (kind, positional, rule) = command_rule(item.command).ok_or(result::UNSUPPORTED)?;
     require(kind == standing.kind, result::UNSUPPORTED)?;
+    // Request M-109: "item 0 of a flight plan must be command 16 (else 3)".
+    let home_fits = item.command == WAYPOINT || !standing.is_home();
+    require(home_fits, result::UNSUPPORTED)?;
     let positional = positional_with(item.command, positional, fault);
     let going_home = item.command == RETURN_HOME;
     let frame_fits = positional_frame(item.frame)
@@ -148,8 +161,10 @@ fn jump_target(bits: u32, standing: &Standing, fault: Fault) -> bool {
         return true;
     }
     let itself_fits = fault.is(Fault::JumpToItself);
+    // Request M-109: "a jump to 0 is refused with 6".
+    let least = i64::from(standing.home);
     whole(bits).is_some_and(|target| {
-        (0..i64::from(standing.count)).contains(&target)
+        (least..i64::from(standing.count)).contains(&target)
             && (itself_fits || target != i64::from(standing.number))
     })
 }
@@ -266,7 +281,7 @@ mod tests {
     }
 
     fn standing(kind: usize) -> Standing {
-        Standing { kind, number: 1, count: 4, jumps_before: 0 }
+        Standing { kind, number: 1, count: 4, jumps_before: 0, home: false }
     }
 
     fn verdict(item: &Item, kind: usize) -> u8 {

@@ -85,9 +85,9 @@ impl Service {
         if !self.fault.is(Fault::PartialOldJudged) {
             return Ok(());
         }
-        let (plan, count) = (self.plan_shelf(kind), upload.count);
+        let (plan, count, home) = (self.plan_shelf(kind), upload.count, self.state.home);
         self.unchanged(upload).try_for_each(|number| {
-            let standing = Standing { kind, number, count, jumps_before: 0 };
+            let standing = Standing { kind, number, count, jumps_before: 0, home };
             judge(&plan.item(store, number), &standing, self.fault)
         })
     }

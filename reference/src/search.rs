@@ -27,12 +27,14 @@ pub fn next_command(state: &mut State, store: &[u32], fault: Fault) -> Command {
     let shelf = state.plan_shelf(FLIGHT).with(fault);
     let mut jump_counts = state.jump_counts;
     let mut followed = 0;
-    let mut at = state.current + u16::from(state.begun);
+    // Request M-109: "a search that would begin at 0 begins at 1".
+    let mut at = (state.current + u16::from(state.begun)).max(u16::from(state.home));
     while at < length {
         let item = shelf.item(store, at);
         let is_jump = item.command == DO_JUMP;
         let jumps_before = if is_jump { shelf.jumps(store, 0..at) } else { 0 };
-        let standing = Standing { kind: FLIGHT, number: at, count: length, jumps_before };
+        let (kind, home) = (FLIGHT, state.home);
+        let standing = Standing { kind, number: at, count: length, jumps_before, home };
         if breaks_rules(&item, &standing, fault) {
             return Command::Stuck;
         }
@@ -114,7 +116,7 @@ mod tests {
 
     fn planned(items: &[Item]) -> (State, Vec<u32>) {
         let mut store = vec![0; STORE_WORDS];
-        let mut state = State::fresh();
+        let mut state = State::fresh(false);
         for (index, item) in items.iter().enumerate() {
             state.plan_shelf(FLIGHT).put(&mut store, index as u16, item);
         }

@@ -61,8 +61,9 @@ pub struct Service {
 }
 
 impl Service {
-    pub fn fresh(fault: Fault) -> Service {
-        Service { state: State::fresh(), fault }
+    /// A fresh start, with or without home in item 0.
+    pub fn fresh(home: bool, fault: Fault) -> Service {
+        Service { state: State::fresh(home), fault }
     }
 
     pub fn message(&mut self, call: &MessageCall, store: &mut [u32], reply: &mut [u8]) -> Returned {
@@ -275,7 +276,8 @@ impl Service {
         };
         let to_end = upload.partial && self.fault.is(Fault::PartialTargetsToEnd);
         let count = if to_end { upload.last + 1 } else { upload.count };
-        let standing = Standing { kind, number: item.seq, count, jumps_before };
+        let home = self.state.home;
+        let standing = Standing { kind, number: item.seq, count, jumps_before, home };
         judge(item, &standing, self.fault)
     }
 
@@ -465,8 +467,10 @@ impl Service {
         Message::ItemInt(Item { to: sender, current, ..item })
     }
 
+    /// Request M-109: "SET_CURRENT 0 chooses 1, and is refused by text if there is no item 1".
     fn set_current(&mut self, seq: u16) -> Message {
         let total = self.state.plans[FLIGHT].length;
+        let seq = seq.max(u16::from(self.state.home));
         if seq >= total {
             let mut text = [0; TEXT_BYTES];
             text[..NO_SUCH_ITEM.len()].copy_from_slice(NO_SUCH_ITEM);

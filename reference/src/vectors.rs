@@ -105,7 +105,7 @@ impl Writer {
 
     fn fresh(&mut self) {
         self.host = USUAL;
-        self.push(Record { b: [STORE_FILL, 0, 0, 0, 0], ..Record::of(record::FRESH) }, Want::Any);
+        self.push(Record::fresh(STORE_FILL, false), Want::Any);
     }
 
     fn pokes(&mut self, pokes: Vec<Record>) {

@@ -41,6 +41,16 @@ fn m108_half() {
     prints(include_bytes!("samples/m108_half.bin"), include_str!("samples/m108_half.exp"));
 }
 
+#[test]
+fn m109() {
+    prints(include_bytes!("samples/m109.bin"), include_str!("samples/m109.exp"));
+}
+
+#[test]
+fn m109_host() {
+    prints(include_bytes!("samples/m109_host.bin"), include_str!("samples/m109_host.exp"));
+}
+
 fn prints(mut script: &[u8], expected: &str) {
     let mut lines = Vec::new();
     play(&mut script, &mut lines, Fault::None).unwrap();

@@ -395,7 +395,7 @@ impl Generator {
         self.comparable = false;
         self.own = self.random.weighted(&OWN_ADDRESSES);
         let fill = self.random.pick(&[0, 0xEE, 0xFF, 0xB1, 0x10]);
-        self.emit(Record { b: [fill, 0, 0, 0, 0], ..Record::of(record::FRESH) });
+        self.emit(Record::fresh(fill, false));
     }
 
     fn poke(&mut self, poked: u8, index: usize, value: u32) {
