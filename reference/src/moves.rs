@@ -28,6 +28,7 @@ pub fn move_from_bytes(state: &mut State, old: &[u8], store: &mut [u32], fault: 
     if fault.is(Fault::MoveResetsProgress) {
         state.restart_flight();
     }
+    state.home &= !fault.is(Fault::Home0LostAtMove);
     outcome::NO_REPLY
 }
 

@@ -101,7 +101,7 @@ impl Service {
             Fault::PartialJumpsSent => sent(),
             Fault::PartialJumpsOld => plan.jumps(store, 0..count),
             Fault::PartialJumpsBoth => plan.jumps(store, 0..count) + sent(),
-            _ => made.jumps(store, 0..count),
+            _ => made.jumps(store, self.first_counted(Fault::Home0WholeLess0)..count),
         };
         let unseen =
             self.fault.is(Fault::PartialLastJump) && made.item(store, last).command != DO_JUMP;
