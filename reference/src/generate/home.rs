@@ -20,7 +20,7 @@ pub(super) const HOME_EPISODES: &[(usize, Episode)] = &[
     (10, Generator::endings_of_plans),
 ];
 
-/// A plan of home, of jumps to the item behind them, and of two items more.
+/// Items of a plan of home, so many jumps and two items behind them.
 fn jumps_behind_home(jumps: usize) -> usize {
     1 + jumps + 2
 }
@@ -35,11 +35,13 @@ impl Generator {
         items
     }
 
-    /// The running flight upload's next item, whatever was planned.
-    fn send_next(&mut self, item: Item) {
-        if let Some(upload) = self.upload(FLIGHT) {
-            self.send_item(upload.station, Item { seq: upload.next, ..item });
-        }
+    /// Sends an item of any kind at place 0, where the running upload expects it, and goes on
+    /// with the upload.
+    fn bring_item_0(&mut self, count: u16) {
+        let item = values::at_0(&mut self.random, count);
+        let station = self.uploader(FLIGHT);
+        self.send_item(station, item);
+        self.go_on(FLIGHT, 20, false);
     }
 
     /// Uploads a flight plan of so many items, some of them jumps.
@@ -75,9 +77,7 @@ impl Generator {
             let count = self.random.within(1, 3) as u16;
             let items = values::plan(&mut self.random, FLIGHT, count, 1);
             self.start(FLIGHT, items);
-            let item = values::at_0(&mut self.random, count);
-            self.send_next(item);
-            self.go_on(FLIGHT, 20, false);
+            self.bring_item_0(count);
         }
         self.look_home(3);
     }
@@ -93,9 +93,7 @@ impl Generator {
             let last = self.random.below(usize::from(length.min(3))) as u16;
             let items = values::plan(&mut self.random, FLIGHT, length, 1);
             self.start_change(FLIGHT, (0, last), items);
-            let item = values::at_0(&mut self.random, length);
-            self.send_next(item);
-            self.go_on(FLIGHT, 20, false);
+            self.bring_item_0(length);
         }
         self.look_home(3);
     }
@@ -104,7 +102,7 @@ impl Generator {
     /// sixteenth.
     fn jumps_home(&mut self) {
         for _ in 0..self.random.within(2, 4) {
-            let count = match self.random.chance(1, 6) {
+            let before = match self.random.chance(1, 6) {
                 true => self.start_with_jumps(MAX_JUMPS),
                 false => {
                     let count = self.random.within(2, 6) as u16;
@@ -117,12 +115,12 @@ impl Generator {
                 self.go_on(FLIGHT, 30, false);
                 self.start_some_change(FLIGHT);
             }
-            for _ in 0..count {
+            for _ in 0..before {
                 self.send_expected(FLIGHT);
             }
             if let Some(upload) = self.upload(FLIGHT) {
                 let jump = values::jump_home(&mut self.random, upload.next, upload.count);
-                self.send_next(jump);
+                self.send_item(upload.station, jump);
             }
             self.go_on(FLIGHT, 20, false);
         }
