@@ -19,6 +19,9 @@ pub mod record {
     pub const FRESH: u8 = 5;
 }
 
+/// The bit of a FRESH's b4 that is the setting "home in item 0".
+pub const HOME: u8 = 1;
+
 /// Bytes of the buffers, and the most that a line takes.
 const BUFFER: usize = 1 << 16;
 const LINE: usize = 160;
@@ -59,7 +62,7 @@ fn number(header: &[u8; HEADER], at: usize) -> u32 {
 fn fits(header: &[u8; HEADER], len: usize) -> bool {
     let known = match header[0] {
         record::MESSAGE | record::TIMER => true,
-        record::FRESH => header[5] == 0,
+        record::FRESH => header[5] & !HOME == 0,
         _ => false,
     };
     known
@@ -72,7 +75,7 @@ fn fits(header: &[u8; HEADER], len: usize) -> bool {
 pub fn play(from: &mut impl Read, to: &mut impl Write) -> io::Result<()> {
     let mut input = Input { from, buffer: vec![0; BUFFER], at: 0, end: 0 };
     let mut out = Vec::with_capacity(BUFFER);
-    let mut service = Service::fresh();
+    let mut service = Service::fresh(false);
     loop {
         let bytes = input.unread(HEADER + MOST_PAYLOAD)?;
         if bytes.is_empty() {
@@ -126,7 +129,7 @@ fn step(service: &mut Service, header: &[u8; HEADER], payload: &[u8], out: &mut 
             let served = service.timer(header[5], clock, store, reply);
             put_line(out, b't', served, &array);
         }
-        _ => *service = Service::fresh(),
+        _ => *service = Service::fresh(header[5] & HOME != 0),
     }
 }
 

@@ -40,7 +40,7 @@ impl Writer {
             calls,
             clock: u32::MAX - 60_000,
             random: Random(seed),
-            drone: Service::fresh(),
+            drone: Service::fresh(false),
             uploads: [const { Vec::new() }; KINDS],
             quiet: [0; KINDS],
             changing: [0; KINDS],

@@ -6,7 +6,7 @@ use std::path::{Path, PathBuf};
 use std::process::Command;
 use std::time::Instant;
 
-use bench::console::{record, HEADER, MOST_STORE};
+use bench::console::{record, HEADER, HOME, MOST_STORE};
 use bench::service::{REPLY_BYTES, STORE_WORDS};
 use bench::slots;
 
@@ -27,11 +27,11 @@ fn put_record(script: &mut Vec<u8>, start: &[u8; 16], payload: &[u8], lent: Lent
     script.extend(payload);
 }
 
-/// A list as a call script without its end: a fresh start, and each call.
-fn script(calls: &[u8], mut lent: impl FnMut() -> Lent) -> Vec<u8> {
+/// A list as a call script without its end: a fresh start with a setting, and each call.
+fn script(calls: &[u8], setting: u8, mut lent: impl FnMut() -> Lent) -> Vec<u8> {
     let mut script = Vec::with_capacity(calls.len());
     let mut start = [0; 16];
-    start[0] = record::FRESH;
+    (start[0], start[5]) = (record::FRESH, setting);
     put_record(&mut script, &start, &[], (0, 0));
     for call in calls.as_chunks().0 {
         start.copy_from_slice(&call[..16]);
@@ -40,7 +40,8 @@ fn script(calls: &[u8], mut lent: impl FnMut() -> Lent) -> Vec<u8> {
     script
 }
 
-/// Scripts at the edges: stores and reply arrays that are too short or longer than they must be, long payloads, and every way that a script ends.
+/// Scripts at the edges: stores and reply arrays that are too short or longer than they must be, long payloads, every way that a script ends, and the calls
+/// with home in item 0.
 fn edges(calls: &[u8]) -> Vec<Vec<u8>> {
     let mut random = Random(4);
     let lent = || {
@@ -50,7 +51,7 @@ fn edges(calls: &[u8]) -> Vec<Vec<u8>> {
             random.of(&[0, reply - 1, reply, 64]),
         )
     };
-    let begun = script(calls, lent);
+    let begun = script(calls, 0, lent);
     let ending = |kind: u8, b4: u8, len: usize, lent: Lent| {
         let mut start = [0; 16];
         (start[0], start[5], start[8]) = (kind, b4, 44);
@@ -62,13 +63,15 @@ fn edges(calls: &[u8]) -> Vec<Vec<u8>> {
     let mut scripts = vec![
         ending(record::END, 0, 0, LEAST),
         ending(255, 0, 0, LEAST),
-        ending(record::FRESH, 1, 0, LEAST),
+        ending(record::FRESH, HOME, 0, LEAST),
+        ending(record::FRESH, 2, 0, LEAST),
         ending(record::MESSAGE, 0, 300, LEAST),
         ending(record::MESSAGE, 0, 301, LEAST),
         ending(record::TIMER, 0, 0, (MOST_STORE, 64)),
         ending(record::TIMER, 0, 0, (MOST_STORE + 1, 64)),
         ending(record::TIMER, 0, 0, (MOST_STORE, 65)),
         begun.clone(),
+        script(calls, HOME, || LEAST),
         Vec::new(),
     ];
     let cut = [1, HEADER - 1, HEADER, HEADER + 1].map(|cut| {
@@ -143,7 +146,7 @@ impl Programs {
 
     /// The least times of both over a list.
     pub fn play_list(&self, runs: usize, calls: &[u8]) -> Result<Times, String> {
-        let mut script = script(calls, || LEAST);
+        let mut script = script(calls, 0, || LEAST);
         script.extend([record::END; HEADER]);
         self.play(runs, &script)
     }

@@ -52,10 +52,10 @@ fn tell(told: &mut [u8], served: Served, reply: &[u8]) {
     told[8..8 + served.len].copy_from_slice(&reply[..served.len]);
 }
 
-/// Plays the calls of a list from a fresh start, tells what they return as far as there is room, and answers the sum of it.
+/// Plays the calls of a list from a fresh start without home in item 0, tells what they return as far as there is room, and answers the sum of it.
 #[inline(never)]
 pub fn replay(calls: &[u8], told: &mut [u8]) -> u64 {
-    let mut service = Service::fresh();
+    let mut service = Service::fresh(false);
     let mut reply = [0; REPLY_ARRAY];
     let mut told = told.chunks_exact_mut(SLOT);
     let mut sum = 0u64;

@@ -7,9 +7,9 @@ use std::process::{Command, Stdio};
 use std::thread;
 
 use crate::fault::{Fault, FAULTS};
-use crate::generate::{scripts, Script};
+use crate::generate::{List, Script};
 use crate::player::Player;
-use crate::script::{array, read_record, record, target, Next, Record};
+use crate::script::{array, read_record, record, target, Next, Record, HOME};
 
 /// The lines that one step of a script prints, and what was played.
 struct Step {
@@ -127,6 +127,7 @@ pub fn describe_record(record: &Record) -> String {
         record::TIMER => format!("TIMER kind {b4} clock {clock} store {store} reply {reply}"),
         record::DONE => format!("DONE store {store}"),
         record::DUMP => "DUMP".to_string(),
+        record::FRESH if b4 & HOME != 0 => format!("FRESH {b0:02X} home"),
         record::FRESH => format!("FRESH {b0:02X}"),
         record::SNAP => format!("SNAP {}", store_name(b4)),
         record::CMP => format!("CMP {}", store_name(b4)),
@@ -176,10 +177,10 @@ pub enum Verdict {
     Differ { number: usize, script: Script, difference: Difference },
 }
 
-/// Plays the list of a seed on the reference and through a program.
-pub fn compare(seed: u64, calls: usize, program: &Path, fault: Fault) -> io::Result<Verdict> {
+/// Plays a list on the reference and through a program.
+pub fn compare(list: List, program: &Path, fault: Fault) -> io::Result<Verdict> {
     let mut lines = 0;
-    for (number, script) in scripts(seed, calls).enumerate() {
+    for (number, script) in list.scripts().enumerate() {
         let bytes = script.bytes();
         let steps = steps(&bytes, fault);
         let printed = run_program(program, bytes)?;
@@ -191,25 +192,26 @@ pub fn compare(seed: u64, calls: usize, program: &Path, fault: Fault) -> io::Res
     Ok(Verdict::Agree { lines })
 }
 
-/// For every fault, the number of calls after which the list of a seed shows it.
-pub fn find_faults(seed: u64, calls: usize) -> Vec<(&'static str, Option<usize>)> {
-    let mut found: Vec<Option<usize>> = vec![None; FAULTS.len()];
+/// For every fault of such lists, the number of calls after which the list shows it.
+pub fn find_faults(list: List) -> Vec<(&'static str, Option<usize>)> {
+    let faults: Vec<_> = FAULTS.iter().filter(|planted| planted.home == list.home).collect();
+    let mut found: Vec<Option<usize>> = vec![None; faults.len()];
     let mut calls_before = 0;
-    for script in scripts(seed, calls) {
+    for script in list.scripts() {
         if found.iter().all(Option::is_some) {
             break;
         }
         let bytes = script.bytes();
         let good = steps(&bytes, Fault::None);
-        for (at, (fault, _, _)) in FAULTS.iter().enumerate() {
-            if found[at].is_none() {
-                let difference = first_difference(&good, &printed(&bytes, *fault));
-                found[at] = difference.map(|difference| calls_before + difference.calls);
+        for (planted, found) in faults.iter().zip(&mut found) {
+            if found.is_none() {
+                let difference = first_difference(&good, &printed(&bytes, planted.fault));
+                *found = difference.map(|difference| calls_before + difference.calls);
             }
         }
         calls_before += script.calls();
     }
-    FAULTS.iter().map(|(_, name, _)| *name).zip(found).collect()
+    faults.iter().map(|planted| planted.name).zip(found).collect()
 }
 
 #[cfg(test)]
@@ -218,19 +220,21 @@ mod tests {
 
     #[test]
     fn every_fault_is_found() {
-        for (name, calls) in find_faults(1, 20_000) {
-            assert!(calls.is_some(), "{name}");
+        for list in [List::plain(1, 20_000), List::home(1, 20_000)] {
+            for (name, calls) in find_faults(list) {
+                assert!(calls.is_some(), "{name}");
+            }
         }
     }
 
     #[test]
     fn lists_show_no_free_words() {
-        for seed in 0..10 {
-            for script in scripts(seed, 4000) {
+        for list in (0..10).flat_map(|seed| [List::plain(seed, 4000), List::home(seed, 4000)]) {
+            for script in list.scripts() {
                 let bytes = script.bytes();
                 let good = steps(&bytes, Fault::None);
                 let difference = first_difference(&good, &printed(&bytes, Fault::FreeWords));
-                assert!(difference.is_none(), "seed {seed}: {}", difference.unwrap());
+                assert!(difference.is_none(), "{list:?}: {}", difference.unwrap());
             }
         }
     }

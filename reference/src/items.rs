@@ -4,6 +4,7 @@ use crate::fault::Fault;
 use crate::layout::Item;
 use crate::limits::*;
 
+pub const WAYPOINT: u16 = 16;
 pub const RETURN_HOME: u16 = 20;
 pub const LAND: u16 = 21;
 pub const DO_JUMP: u16 = 177;
@@ -38,6 +39,30 @@ pub struct Standing {
     pub count: u16,
     /// Items with command 177 before it.
     pub jumps_before: usize,
+    /// Whether item 0 of a flight plan is home (request M-109).
+    pub home: bool,
+}
+
+impl Standing {
+    /// Fence and rally have no home.
+    fn is_home(&self, fault: Fault) -> bool {
+        let of_kind = match self.kind {
+            FENCE => fault.is(Fault::Home0OfFence),
+            RALLY => fault.is(Fault::Home0OfRally),
+            _ => true,
+        };
+        self.home && of_kind && self.number == 0
+    }
+
+    /// The least target of a jump. Request M-109: "a jump to 0 is refused with 6".
+    fn least_target(&self, bits: u32, fault: Fault) -> i64 {
+        let taken = match fault {
+            Fault::Home0JumpTaken | Fault::Home0JumpLate => true,
+            Fault::Home0JumpMinusZero => bits == 1 << 31,
+            _ => false,
+        };
+        i64::from(self.home && !taken)
+    }
 }
 
 /// What a command asks of an item's params.
@@ -63,7 +88,7 @@ enum ParamRule {
 /// The table of commands: kind, whether positional, and the params' rule.
 fn command_rule(command: u16) -> Option<(usize, bool, ParamRule)> {
     Some(match command {
-        16 | 18 | 19 => (FLIGHT, true, ParamRule::Amount),
+        WAYPOINT | 18 | 19 => (FLIGHT, true, ParamRule::Amount),
         17 | LAND | 22 | 31 => (FLIGHT, true, ParamRule::Free),
         // Request M-101: frames as the commands below, x, y and z unchecked.
         RETURN_HOME => (FLIGHT, false, ParamRule::Free),
@@ -84,19 +109,38 @@ fn command_rule(command: u16) -> Option<(usize, bool, ParamRule)> {
 pub fn judge(item: &Item, standing: &Standing, fault: Fault) -> Result<(), u8> {
     let (kind, positional, rule) = command_rule(item.command).ok_or(result::UNSUPPORTED)?;
     require(kind == standing.kind, result::UNSUPPORTED)?;
+    let home = require(home_fits(item, positional, standing, fault), result::UNSUPPORTED);
+    // A planted fault judges it later.
+    if ![Fault::Home0AfterFrame, Fault::Home0AfterParams].contains(&fault) {
+        home?;
+    }
     let positional = positional_with(item.command, positional, fault);
     let going_home = item.command == RETURN_HOME;
     let frame_fits = positional_frame(item.frame)
         || (item.frame == 2 && (!positional || fault.is(Fault::FrameTwo)))
         || (going_home && fault.is(Fault::HomeAnyFrame));
     require(frame_fits, result::UNSUPPORTED_FRAME)?;
+    if fault.is(Fault::Home0AfterFrame) {
+        home?;
+    }
     check_params(item, rule, standing, fault)?;
+    home?;
     if positional || (going_home && fault.is(Fault::HomePlaceJudged)) {
         check_position(item, fault)?;
     }
     let room = MAX_JUMPS + usize::from(fault.is(Fault::SixteenJumps));
     let fits = item.command != DO_JUMP || standing.jumps_before < room;
     require(fits, result::NO_SPACE)
+}
+
+/// Request M-109: "item 0 of a flight plan must be command 16 (else 3)".
+fn home_fits(item: &Item, positional: bool, standing: &Standing, fault: Fault) -> bool {
+    let taken = match fault {
+        Fault::Home0AnyCommand => true,
+        Fault::Home0AnyPositional => positional,
+        _ => false,
+    };
+    item.command == WAYPOINT || !standing.is_home(fault) || taken
 }
 
 /// Whether a command is positional, with a planted fault.
@@ -133,7 +177,9 @@ fn check_params(item: &Item, rule: ParamRule, standing: &Standing, fault: Fault)
         ParamRule::Radius => (finite(first) && f32::from_bits(first) > 0.0, true),
     };
     require(first_fits, result::INVALID_PARAM1)?;
-    require(second_fits, result::INVALID_PARAM2)
+    require(second_fits, result::INVALID_PARAM2)?;
+    let late = rule == ParamRule::Jump && fault.is(Fault::Home0JumpLate);
+    require(!late || jump_target(first, standing, Fault::None), result::INVALID_PARAM1)
 }
 
 fn check_position(item: &Item, fault: Fault) -> Result<(), u8> {
@@ -148,8 +194,9 @@ fn jump_target(bits: u32, standing: &Standing, fault: Fault) -> bool {
         return true;
     }
     let itself_fits = fault.is(Fault::JumpToItself);
+    let least = standing.least_target(bits, fault);
     whole(bits).is_some_and(|target| {
-        (0..i64::from(standing.count)).contains(&target)
+        (least..i64::from(standing.count)).contains(&target)
             && (itself_fits || target != i64::from(standing.number))
     })
 }
@@ -266,7 +313,7 @@ mod tests {
     }
 
     fn standing(kind: usize) -> Standing {
-        Standing { kind, number: 1, count: 4, jumps_before: 0 }
+        Standing { kind, number: 1, count: 4, jumps_before: 0, home: false }
     }
 
     fn verdict(item: &Item, kind: usize) -> u8 {

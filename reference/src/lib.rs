@@ -5,6 +5,7 @@ pub mod compare;
 pub mod fault;
 pub mod fence;
 pub mod generate;
+pub mod home;
 pub mod items;
 pub mod layout;
 pub mod letter;

@@ -9,8 +9,8 @@ use std::process::ExitCode;
 use std::str::FromStr;
 
 use reference::compare::{compare, find_faults, printed, run_program, Verdict};
-use reference::fault::{Fault, FAULTS};
-use reference::generate::{scripts, Script};
+use reference::fault::{Fault, Planted, FAULTS};
+use reference::generate::{List, Script};
 use reference::letter::tell;
 use reference::moved::Moved;
 use reference::player::play;
@@ -21,16 +21,17 @@ use reference::vectors::{misses, Printed, Script as Table};
 
 const USAGE: &str = "\
 reference play                                          script on standard input, lines on standard output
-reference generate --seed N --calls M [--out FILE]      the list as one script
-reference compare --seed N --calls M --console PATH [--fault F] [--out FILE]
+reference generate --seed N --calls M [--home] [--out FILE]
+                                                        the list as one script
+reference compare --seed N --calls M [--home] --console PATH [--fault F] [--out FILE]
                                                         with the program at PATH; FILE gets a script that differs
 reference vectors --table FILE [--console PATH] [--out FILE]
                                                         the table's cases; FILE gets their script
 reference moved --script FILE --lines FILE [--console PATH]
                                                         plans that were written over bytes, moved, and asked for again
 reference letter --story FILE --console PATH            the story, told by what the program at PATH prints
-reference faults                                        the faults that --fault plants
-reference selftest-faults --seed N --calls M            finds every fault, without another program
+reference faults                                        the faults that --fault plants, and which need --home
+reference selftest-faults --seed N --calls M [--home]   finds every fault of such lists, without another program
 reference speed --calls M [--console PATH]              times both on one script";
 
 /// Exit status for a difference, and for what cannot be done.
@@ -69,21 +70,31 @@ fn run(command: &str, options: &Options) -> Answer {
     }
 }
 
-/// Options of the form `--name value`.
+/// Options without a value.
+const FLAGS: [&str; 1] = ["--home"];
+
+/// Options of the form `--name value`, and flags.
 struct Options(HashMap<String, String>);
 
 impl Options {
     fn read(arguments: &[String]) -> Result<Options, String> {
         let mut options = HashMap::new();
-        for pair in arguments.chunks(2) {
-            match pair {
-                [name, value] if name.starts_with("--") => {
-                    options.insert(name[2..].to_string(), value.clone());
-                }
-                _ => return Err(USAGE.to_string()),
-            }
+        let mut arguments = arguments.iter();
+        while let Some(argument) = arguments.next() {
+            let name = argument.strip_prefix("--").ok_or(USAGE)?;
+            let value = match FLAGS.contains(&argument.as_str()) {
+                true => String::new(),
+                false => arguments.next().ok_or(USAGE)?.clone(),
+            };
+            options.insert(name.to_string(), value);
         }
         Ok(Options(options))
+    }
+
+    /// The call list that is asked for.
+    fn list(&self) -> Result<List, String> {
+        let (seed, calls) = (self.number("seed")?, self.number("calls")?);
+        Ok(List { seed, calls, home: self.text("home").is_some() })
     }
 
     fn text(&self, name: &str) -> Option<&str> {
@@ -108,8 +119,7 @@ fn play_standard_input() -> Answer {
 }
 
 fn generate(options: &Options) -> Answer {
-    let (seed, calls) = (options.number("seed")?, options.number("calls")?);
-    let bytes = Script::joined(scripts(seed, calls)).bytes();
+    let bytes = Script::joined(options.list()?.scripts()).bytes();
     match options.text("out") {
         None => io::stdout().write_all(&bytes).map_err(failed)?,
         Some(file) => write_file(file, &bytes)?,
@@ -127,19 +137,21 @@ fn write_file(name: &str, bytes: &[u8]) -> Result<(), String> {
 }
 
 fn compare_with(options: &Options) -> Answer {
-    let (seed, calls): (u64, usize) = (options.number("seed")?, options.number("calls")?);
+    let list = options.list()?;
     let console = options.text("console").ok_or("--console is missing")?;
     let fault = match options.text("fault") {
         None => Fault::None,
         Some(name) => Fault::named(name).ok_or(format!("no fault {name}"))?,
     };
-    match compare(seed, calls, Path::new(console), fault).map_err(failed)? {
+    let List { seed, calls, home } = list;
+    let of_home = if home { ", home" } else { "" };
+    match compare(list, Path::new(console), fault).map_err(failed)? {
         Verdict::Agree { lines } => {
-            println!("seed {seed}: {calls} calls, {lines} lines agree");
+            println!("seed {seed}{of_home}: {calls} calls, {lines} lines agree");
             Ok(ExitCode::SUCCESS)
         }
         Verdict::Differ { number, script, difference } => {
-            println!("seed {seed}, script {number}: {difference}");
+            println!("seed {seed}{of_home}, script {number}: {difference}");
             if let Some(file) = options.text("out") {
                 write_file(file, &script.bytes())?;
             }
@@ -210,21 +222,22 @@ fn tell_story(options: &Options) -> Answer {
 }
 
 fn list_faults() -> Answer {
-    for (_, name, what) in FAULTS {
-        println!("{name:22} {what}");
+    for Planted { name, what, home, .. } in FAULTS {
+        let list = if *home { "--home" } else { "-" };
+        println!("{name:25} {list:6} {what}");
     }
     Ok(ExitCode::SUCCESS)
 }
 
 fn selftest_faults(options: &Options) -> Answer {
-    let found = find_faults(options.number("seed")?, options.number("calls")?);
+    let found = find_faults(options.list()?);
     let mut missed = 0;
     for (name, calls) in &found {
         match calls {
-            Some(calls) => println!("{name:22} found after {calls} calls"),
+            Some(calls) => println!("{name:25} found after {calls} calls"),
             None => {
                 missed += 1;
-                println!("{name:22} NOT FOUND");
+                println!("{name:25} NOT FOUND");
             }
         }
     }

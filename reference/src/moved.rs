@@ -33,8 +33,7 @@ impl Moved {
         if calls(asked) != asked.len() || answers.len() != asked.len() {
             return Err("not one answer to each call behind the DUMP".to_string());
         }
-        let fresh = Record { b: [FILL, 0, 0, 0, 0], ..Record::of(record::FRESH) };
-        let mut records = vec![fresh];
+        let mut records = vec![Record::fresh(FILL, false)];
         records.extend(as_shown(dump)?);
         records.push(Record::moving(OLD_STORE_BYTES as u32, STORE_WORDS as u32));
         records.push(Record::of(record::DUMP));

@@ -28,6 +28,7 @@ pub fn move_from_bytes(state: &mut State, old: &[u8], store: &mut [u32], fault: 
     if fault.is(Fault::MoveResetsProgress) {
         state.restart_flight();
     }
+    state.home &= !fault.is(Fault::Home0LostAtMove);
     outcome::NO_REPLY
 }
 
@@ -68,7 +69,8 @@ fn move_plan(state: &mut State, kind: usize, old: &[u8], store: &mut [u32], faul
     let length = state.plans[kind].length;
     for index in 0..length {
         let item = old_item(old, from.place(index));
-        let standing = Standing { kind, number: index, count: length, jumps_before: 0 };
+        let home = state.home;
+        let standing = Standing { kind, number: index, count: length, jumps_before: 0, home };
         let left = fault.is(Fault::MoveLeavesInvalid) && judge(&item, &standing, fault).is_err();
         if !left {
             to.put(store, moved_to(&item, &to, index, fault), &item);
@@ -106,7 +108,7 @@ mod tests {
     /// Plans of two items in both halves, an upload of each kind, the rally plan's
     /// a partial one, and progress.
     fn before() -> State {
-        let mut state = State::fresh();
+        let mut state = State::fresh(false);
         for (kind, plan) in state.plans.iter_mut().enumerate() {
             let station = Address::default();
             let upload = match kind {
@@ -185,7 +187,7 @@ mod tests {
 
     #[test]
     fn empty_plans_keep_their_numbers() {
-        let mut state = State::fresh();
+        let mut state = State::fresh(false);
         state.plans[FENCE] = Plan { number: 9, half: 1, ..Plan::default() };
         let (outcome, store) = moved(&mut state, &old_store());
         assert_eq!((outcome, state.plans[FENCE].number, state.plans[FENCE].half), (1, 9, 1));

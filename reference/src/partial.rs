@@ -85,9 +85,9 @@ impl Service {
         if !self.fault.is(Fault::PartialOldJudged) {
             return Ok(());
         }
-        let (plan, count) = (self.plan_shelf(kind), upload.count);
+        let (plan, count, home) = (self.plan_shelf(kind), upload.count, self.state.home);
         self.unchanged(upload).try_for_each(|number| {
-            let standing = Standing { kind, number, count, jumps_before: 0 };
+            let standing = Standing { kind, number, count, jumps_before: 0, home };
             judge(&plan.item(store, number), &standing, self.fault)
         })
     }
@@ -101,7 +101,7 @@ impl Service {
             Fault::PartialJumpsSent => sent(),
             Fault::PartialJumpsOld => plan.jumps(store, 0..count),
             Fault::PartialJumpsBoth => plan.jumps(store, 0..count) + sent(),
-            _ => made.jumps(store, 0..count),
+            _ => made.jumps(store, self.first_counted(Fault::Home0WholeLess0)..count),
         };
         let unseen =
             self.fault.is(Fault::PartialLastJump) && made.item(store, last).command != DO_JUMP;

@@ -65,7 +65,7 @@ impl Player {
     /// A fresh start over zeros.
     pub fn new(fault: Fault) -> Player {
         Player {
-            service: Service::fresh(fault),
+            service: Service::fresh(false, fault),
             stores: Stores::zeros(),
             reply: [0; REPLY_ARRAY],
             returned: Returned::default(),
@@ -95,7 +95,8 @@ impl Player {
             record::DONE => self.done(record, out),
             record::DUMP => self.dump(record.b[4] & WITHOUT_HALF == 0, out),
             record::FRESH => {
-                self.service = Service::fresh(self.service.fault);
+                let home = record.b[4] & HOME != 0;
+                self.service = Service::fresh(home, self.service.fault);
                 self.stores.fill(record.b[0]);
             }
             record::SNAP => self.snap(record.b[4]),
@@ -222,12 +223,15 @@ impl Player {
         for kind in 0..KINDS {
             self.dump_kind(kind, with_half, out);
         }
-        let State { current, begun, jump_counts, .. } = self.state();
+        let State { home, current, begun, jump_counts, .. } = self.state();
         print(out, format_args!("c {current} {}", u8::from(*begun)));
         for count in jump_counts {
             print(out, format_args!(" {count}"));
         }
         out.push(b'\n');
+        if *home {
+            out.extend(b"h 1\n");
+        }
     }
 
     fn dump_kind(&self, kind: usize, with_half: bool, out: &mut Vec<u8>) {
@@ -330,10 +334,6 @@ mod tests {
         String::from_utf8(out).unwrap()
     }
 
-    fn fresh(fill: u8) -> Record {
-        Record { b: [fill, 0, 0, 0, 0], ..Record::of(record::FRESH) }
-    }
-
     #[test]
     fn ends() {
         let dump = Record::of(record::DUMP);
@@ -354,7 +354,7 @@ mod tests {
         let byte = |value| Record::host_write(target::OLD, 0, 26_879, vec![value]);
         let both = |kind| [array::STORE, array::OLD].map(|array| Record::about(kind, array));
         let (snap, [words, old]) = (both(record::SNAP), both(record::CMP));
-        let mut script = vec![words.clone(), old.clone(), fresh(7)];
+        let mut script = vec![words.clone(), old.clone(), Record::fresh(7, false)];
         script.extend([words.clone(), old.clone()]);
         script.extend(snap);
         for change in [word(7), byte(7), word(8), byte(8)] {
@@ -370,7 +370,7 @@ mod tests {
     fn a_host_writes_items() {
         let item = Item { command: 5100, frame: 0x12, autocontinue: 0xFE, ..Item::default() };
         let payload = word_bytes(&words_of(&item));
-        let mut script = vec![fresh(0)];
+        let mut script = vec![Record::fresh(0, false)];
         script.extend([Record::poke(field::LENGTH, 2, 2), Record::poke(field::HALF, 2, 1)]);
         script.extend([
             Record::host_write(target::PLAN, 2, 0, payload.clone()),
@@ -397,7 +397,7 @@ mod tests {
         let station = address(3, 4);
         let whole = Upload { next: 1, repeats: 5, ..Upload::whole(station, 2, 7) };
         let partial = Upload { next: 2, ..Upload::partial(station, 3, (1, 2), 8) };
-        let mut script = vec![fresh(0x11), Record::poke(field::LENGTH, 1, 3)];
+        let mut script = vec![Record::fresh(0x11, false), Record::poke(field::LENGTH, 1, 3)];
         script.extend(Record::upload_pokes(0, Some(whole)));
         script.extend(Record::upload_pokes(1, Some(partial)));
         script.push(Record::of(record::DUMP));
@@ -425,7 +425,7 @@ mod tests {
         let mut moved = Record::moving(26_752, 5_632);
         let old = Record::host_write(target::OLD, 0, 38, (1..=38).collect());
         let script = [
-            fresh(0xEE),
+            Record::fresh(0xEE, false),
             old,
             Record::poke(field::LENGTH, 0, 2),
             Record::poke(field::RUNNING, 0, 1),

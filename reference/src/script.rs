@@ -69,6 +69,8 @@ pub mod field {
     pub const LAST: u8 = 15;
 }
 
+/// The bit of a FRESH's b4 that is the setting "home in item 0".
+pub const HOME: u8 = 1;
 /// The bit of a DUMP's b4 with which a plan's half is not printed.
 pub const WITHOUT_HALF: u8 = 1;
 
@@ -116,6 +118,12 @@ impl Record {
         Record { b: [kind, 0, 0, 0, written], a: at, payload, ..Record::of(record::WRITE) }
     }
 
+    /// A fresh start over stores full of a byte, with or without home in item 0.
+    pub fn fresh(fill: u8, home: bool) -> Record {
+        let setting = if home { HOME } else { 0 };
+        Record { b: [fill, 0, 0, 0, setting], ..Record::of(record::FRESH) }
+    }
+
     /// A SNAP or CMP of the store or the old one, or a DUMP with or without halves.
     pub fn about(kind: u8, b4: u8) -> Record {
         Record { b: [0, 0, 0, 0, b4], ..Record::of(kind) }
@@ -161,7 +169,7 @@ impl Record {
         let [b0, .., b4] = self.b;
         let known = match self.kind {
             record::MESSAGE..=record::DUMP => true,
-            record::FRESH => b4 == 0,
+            record::FRESH => b4 & !HOME == 0,
             record::SNAP | record::CMP => matches!(b4, array::STORE | array::OLD),
             record::POKE => poke_fits(b4, b0),
             record::WRITE => write_fits(b4, b0, self.a as usize, len),
@@ -303,7 +311,9 @@ mod tests {
             Record { store: 5_665, ..of(record::DONE) },
             Record { store: 5_665, ..of(record::POKE) },
             Record { reply: 65, ..of(record::TIMER) },
-            Record { b: [0, 0, 0, 0, 1], ..of(record::FRESH) },
+            Record::about(record::FRESH, 2),
+            Record::about(record::FRESH, 3),
+            Record::about(record::FRESH, 128),
             Record::about(record::SNAP, 2),
             Record::about(record::CMP, 2),
             Record::poke(16, 0, 0),
@@ -336,6 +346,7 @@ mod tests {
     fn records_that_just_can_be_played() {
         let good = [
             Record { store: 5_664, reply: 64, ..Record::of(record::DONE) },
+            Record::fresh(0xFF, true),
             Record::about(record::SNAP, 1),
             Record::about(record::CMP, 1),
             Record::about(record::DUMP, WITHOUT_HALF),

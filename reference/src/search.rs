@@ -1,6 +1,7 @@
 //! Choosing the next command of the flight plan, with jumps.
 
 use crate::fault::Fault;
+use crate::home::search_begin;
 use crate::items::{judge, read, whole, Reading, Standing, DO_JUMP};
 use crate::layout::Item;
 use crate::limits::*;
@@ -27,12 +28,21 @@ pub fn next_command(state: &mut State, store: &[u32], fault: Fault) -> Command {
     let shelf = state.plan_shelf(FLIGHT).with(fault);
     let mut jump_counts = state.jump_counts;
     let mut followed = 0;
-    let mut at = state.current + u16::from(state.begun);
+    let first_counted = u16::from(state.home && fault.is(Fault::Home0Uncounted));
+    if state.home && stuck_at_home(&shelf.item(store, 0), length, fault) {
+        return Command::Stuck;
+    }
+    let mut at = search_begin(state, fault);
     while at < length {
         let item = shelf.item(store, at);
         let is_jump = item.command == DO_JUMP;
-        let jumps_before = if is_jump { shelf.jumps(store, 0..at) } else { 0 };
-        let standing = Standing { kind: FLIGHT, number: at, count: length, jumps_before };
+        let jumps_before = if is_jump { shelf.jumps(store, first_counted..at) } else { 0 };
+        let (kind, home) = (FLIGHT, state.home);
+        let standing = Standing { kind, number: at, count: length, jumps_before, home };
+        if is_jump && passes_home(&item, &standing, fault) {
+            at += 1;
+            continue;
+        }
         if breaks_rules(&item, &standing, fault) {
             return Command::Stuck;
         }
@@ -63,10 +73,29 @@ pub fn next_command(state: &mut State, store: &[u32], fault: Fault) -> Command {
     Command::Finished
 }
 
+/// With a planted fault, whether item 0 hinders a search that never meets it.
+fn stuck_at_home(home: &Item, length: u16, fault: Fault) -> bool {
+    let standing = Standing { kind: FLIGHT, number: 0, count: length, jumps_before: 0, home: true };
+    match fault {
+        Fault::Home0AloneStuck => length == 1,
+        Fault::Home0Judged => length > 0 && judge(home, &standing, Fault::None).is_err(),
+        _ => false,
+    }
+}
+
+/// With a planted fault, whether a jump to 0 is passed over.
+fn passes_home(jump: &Item, standing: &Standing, fault: Fault) -> bool {
+    standing.home && fault.is(Fault::Home0JumpPassed) && whole(jump.params[0]) == Some(0)
+}
+
 /// Whether an item that the search meets is not valid.
 fn breaks_rules(item: &Item, standing: &Standing, fault: Fault) -> bool {
     let trusted = fault.is(Fault::SearchTrusts) && item.command != DO_JUMP;
-    let judging = if fault.is(Fault::HomeStuck) { Fault::HomePositional } else { fault };
+    let judging = match fault {
+        Fault::HomeStuck => Fault::HomePositional,
+        Fault::Home0JumpFollowed => Fault::Home0JumpTaken,
+        _ => fault,
+    };
     !trusted && judge(item, standing, judging).is_err()
 }
 
@@ -114,7 +143,7 @@ mod tests {
 
     fn planned(items: &[Item]) -> (State, Vec<u32>) {
         let mut store = vec![0; STORE_WORDS];
-        let mut state = State::fresh();
+        let mut state = State::fresh(false);
         for (index, item) in items.iter().enumerate() {
             state.plan_shelf(FLIGHT).put(&mut store, index as u16, item);
         }

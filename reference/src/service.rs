@@ -61,8 +61,14 @@ pub struct Service {
 }
 
 impl Service {
-    pub fn fresh(fault: Fault) -> Service {
-        Service { state: State::fresh(), fault }
+    /// A fresh start, with or without home in item 0.
+    pub fn fresh(home: bool, fault: Fault) -> Service {
+        let home = match fault {
+            Fault::Home0Always => true,
+            Fault::Home0Never => false,
+            _ => home,
+        };
+        Service { state: State::fresh(home), fault }
     }
 
     pub fn message(&mut self, call: &MessageCall, store: &mut [u32], reply: &mut [u8]) -> Returned {
@@ -226,6 +232,9 @@ impl Service {
         }
         if count == 0 {
             self.empty(usize::from(kind));
+            if usize::from(kind) == FLIGHT {
+                self.lose_home(Fault::Home0LostAtCount0);
+            }
             return ack(sender, result::ACCEPTED, kind);
         }
         plan.upload = Some(Upload::whole(sender, count, clock));
@@ -270,13 +279,22 @@ impl Service {
         let kind = usize::from(item.kind);
         let jumps_before = match item.command {
             DO_JUMP if upload.partial => self.jumps_beside(upload, store),
-            DO_JUMP => self.upload_shelf(kind).jumps(store, 0..upload.next),
+            DO_JUMP => {
+                let first = self.first_counted(Fault::Home0TakesNoRoom);
+                self.upload_shelf(kind).jumps(store, first..upload.next.max(first))
+            }
             _ => 0,
         };
         let to_end = upload.partial && self.fault.is(Fault::PartialTargetsToEnd);
         let count = if to_end { upload.last + 1 } else { upload.count };
-        let standing = Standing { kind, number: item.seq, count, jumps_before };
-        judge(item, &standing, self.fault)
+        let home = self.state.home;
+        let standing = Standing { kind, number: item.seq, count, jumps_before, home };
+        let judging = match self.fault {
+            Fault::Home0PartialFree if upload.partial => Fault::Home0AnyCommand,
+            Fault::Home0JumpPartial if upload.partial => Fault::Home0JumpTaken,
+            fault => fault,
+        };
+        judge(item, &standing, judging)
     }
 
     /// Drops an item and requests the expected one again.
@@ -390,8 +408,15 @@ impl Service {
         let number = plan.number;
         match upload.partial {
             _ if kind != FLIGHT => {}
-            true => self.go_on_flying(upload),
-            false => self.state.restart_flight(),
+            true => {
+                self.go_on_flying(upload);
+                self.lose_home(Fault::Home0LostAtPart);
+            }
+            false => {
+                self.state.restart_flight();
+                self.state.current = self.first_counted(Fault::Home0RestartsAt1).min(upload.last);
+                self.lose_home(Fault::Home0LostAtReplacement);
+            }
         }
         number
     }
@@ -405,6 +430,9 @@ impl Service {
         }
         if kind == FLIGHT || self.fault.is(Fault::FenceResetsFlight) {
             self.state.restart_flight();
+        }
+        if kind == FENCE {
+            self.lose_home(Fault::Home0LostAtFence);
         }
     }
 
@@ -436,6 +464,11 @@ impl Service {
                 self.empty(index);
             }
         }
+        match kind {
+            ALL_KINDS => self.lose_home(Fault::Home0LostAtClearAll),
+            _ if usize::from(kind) == FLIGHT => self.lose_home(Fault::Home0LostAtClear),
+            _ => {}
+        }
         ack(sender, result::ACCEPTED, kind)
     }
 
@@ -460,25 +493,30 @@ impl Service {
         if seq >= plan.length {
             return ack(sender, result::INVALID_SEQUENCE, kind);
         }
-        let current = u8::from(index == FLIGHT && seq == self.state.current);
+        let hidden = self.bends_home(seq, Fault::Home0NotShown);
+        let current = u8::from(index == FLIGHT && seq == self.state.current && !hidden);
         let item = self.plan_shelf(index).item(store, seq);
         Message::ItemInt(Item { to: sender, current, ..item })
     }
 
     fn set_current(&mut self, seq: u16) -> Message {
         let total = self.state.plans[FLIGHT].length;
-        if seq >= total {
+        let Some(chosen) = self.chosen(seq) else {
             let mut text = [0; TEXT_BYTES];
             text[..NO_SUCH_ITEM.len()].copy_from_slice(NO_SUCH_ITEM);
             return Message::StatusText { severity: SEVERITY_WARNING, text, id: 0, chunk: 0 };
-        }
-        self.state.current = seq;
-        self.state.begun &= self.fault.is(Fault::SetCurrentBegun);
+        };
+        let bends = |fault| self.bends_home(seq, fault);
+        let current = if bends(Fault::Home0SetStays) { seq } else { chosen };
+        let shown = if bends(Fault::Home0SetSeq0) { seq } else { chosen };
+        let begun = self.fault.is(Fault::SetCurrentBegun) || bends(Fault::Home0SetKeepsBegun);
+        self.state.current = current;
+        self.state.begun &= begun;
         if self.fault.is(Fault::SetCurrentCounts) {
             self.state.jump_counts = [0; MAX_JUMPS];
         }
         let numbers = [FLIGHT, FENCE, RALLY].map(|kind| self.shown_number(kind));
-        Message::Current { seq, total, state: 0, mode: 0, numbers }
+        Message::Current { seq: shown, total, state: 0, mode: 0, numbers }
     }
 
     /// A timer call: requests again, or gives the upload up.

@@ -91,6 +91,8 @@ impl Plan {
 
 #[derive(Clone, Debug, Default, PartialEq, Eq)]
 pub struct State {
+    /// The setting "home in item 0" (request M-109), "chosen at the fresh start".
+    pub home: bool,
     pub plans: [Plan; KINDS],
     pub current: u16,
     pub begun: bool,
@@ -99,8 +101,8 @@ pub struct State {
 
 impl State {
     /// Empty plans, no upload, all numbers 0, not begun, first halves.
-    pub fn fresh() -> State {
-        State::default()
+    pub fn fresh(home: bool) -> State {
+        State { home, ..State::default() }
     }
 
     /// True if every number is in its range (else outcome 15).
@@ -134,7 +136,7 @@ mod tests {
     use super::*;
 
     fn with_upload(kind: usize, upload: Upload) -> State {
-        let mut state = State::fresh();
+        let mut state = State::fresh(false);
         state.plans[kind].upload = Some(upload);
         state
     }
@@ -148,7 +150,7 @@ mod tests {
     #[test]
     fn plan_ranges() {
         for (kind, size) in PLAN_SIZE.into_iter().enumerate() {
-            let mut state = State::fresh();
+            let mut state = State::fresh(false);
             state.plans[kind].length = size;
             assert!(state.in_range(Fault::None));
             state.plans[kind].length += 1;
@@ -203,7 +205,7 @@ mod tests {
 
     #[test]
     fn progress_ranges() {
-        let mut state = State::fresh();
+        let mut state = State::fresh(false);
         state.current = 1;
         assert!(!state.in_range(Fault::None));
         state.plans[FLIGHT].length = 2;

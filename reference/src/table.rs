@@ -36,7 +36,10 @@ pub enum Act {
 /// What a row without a WANTED sets.
 #[derive(Clone, Debug, PartialEq, Eq)]
 pub enum Setting {
-    Fresh,
+    /// A fresh start, with or without home in item 0.
+    Fresh {
+        home: bool,
+    },
     Own(Address),
     Sender(Address),
     Clock(u32),
@@ -46,7 +49,11 @@ pub enum Setting {
     },
     /// Copies of the store and of the store of bytes.
     Copies,
-    Current(u16),
+    /// The current item, and whether it has begun.
+    Current {
+        item: u16,
+        begun: Option<bool>,
+    },
     /// A plan: length, number, half.
     Plan {
         kind: u8,
@@ -162,7 +169,7 @@ pub fn read_row(line: usize, text: &str) -> Result<Row, String> {
 
 fn read_setting(args: &mut Words) -> Result<Setting, String> {
     let setting = match args.next("OP")? {
-        "f" => Setting::Fresh,
+        "f" => Setting::Fresh { home: args.mark("home")? },
         "o" => Setting::Own(args.address()?),
         "s" => Setting::Sender(args.address()?),
         "c" => Setting::Clock(args.number("MS")?),
@@ -171,7 +178,7 @@ fn read_setting(args: &mut Words) -> Result<Setting, String> {
             reply: args.at_most("REPLY", REPLY_ARRAY)? as u32,
         },
         "a" => Setting::Copies,
-        "p" => Setting::Current(args.number("ITEM")?),
+        "p" => args.progress()?,
         "k" => args.plan()?,
         "r" => args.upload()?,
         "w" => args.write(target::WORDS)?,
@@ -289,6 +296,24 @@ impl<'a> Words<'a> {
     fn at_most(&mut self, what: &str, most: usize) -> Result<usize, String> {
         let number = self.number(what)?;
         (number <= most).then_some(number).ok_or(format!("{what} {number}: above {most}"))
+    }
+
+    /// Whether this word stands at the end.
+    fn mark(&mut self, mark: &str) -> Result<bool, String> {
+        match self.0.next() {
+            None => Ok(false),
+            Some(word) if word == mark => Ok(true),
+            Some(word) => Err(format!("{word}: not `{mark}`")),
+        }
+    }
+
+    fn progress(&mut self) -> Result<Setting, String> {
+        let item = self.number("ITEM")?;
+        let begun = match self.0.peek() {
+            None => None,
+            Some(_) => Some(self.at_most("BEGUN", 1)? == 1),
+        };
+        Ok(Setting::Current { item, begun })
     }
 
     fn address(&mut self) -> Result<Address, String> {
@@ -450,7 +475,7 @@ mod tests {
     fn rows_and_comments() {
         let rows = read("# what follows\n\na start:  f\nno upload :t 2  >  1\n").unwrap();
         assert_eq!((rows[0].line, rows[0].name.as_str()), (3, "a start"));
-        assert_eq!(rows[0].act, Act::Set(Setting::Fresh));
+        assert_eq!(rows[0].act, Act::Set(Setting::Fresh { home: false }));
         assert_eq!((rows[1].line, rows[1].name.as_str()), (4, "no upload"));
         let wanted = Reply { outcome: 1, id: 0, bytes: vec![] };
         assert_eq!(rows[1].act, Act::Call(Call::Timer { kind: 2, wanted }));
@@ -498,6 +523,11 @@ mod tests {
     #[test]
     fn settings() {
         let set = |text: &str| read_row(1, text).unwrap().act;
+        assert_eq!(set("a: f home"), Act::Set(Setting::Fresh { home: true }));
+        for (text, begun) in [("a: p 7", None), ("a: p 7 0", Some(false)), ("a: p 7 1", Some(true))]
+        {
+            assert_eq!(set(text), Act::Set(Setting::Current { item: 7, begun }));
+        }
         assert_eq!(set("a: o 3 4"), Act::Set(Setting::Own(address(3, 4))));
         assert_eq!(set("a: c 4294967295"), Act::Set(Setting::Clock(u32::MAX)));
         assert_eq!(set("a: l 5664 64"), Act::Set(Setting::Lent { store: 5_664, reply: 64 }));
@@ -540,7 +570,10 @@ mod tests {
         ("a: m 44 01", "no OP m without a WANTED"),
         ("a: f > 1", "no OP f with a WANTED"),
         ("a:", "OP is missing"),
-        ("a: f 1", "1: too much"),
+        ("a: f 1", "1: not `home`"),
+        ("a: f home 1", "1: too much"),
+        ("a: p 0 2", "BEGUN 2: above 1"),
+        ("a: o 1 1 1", "1: too much"),
         ("a: t > 1", "KIND is missing"),
         ("a: t 256 > 1", "KIND 256: no number that fits"),
         ("a: t 1 >", "OUTCOME is missing"),

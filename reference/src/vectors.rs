@@ -50,8 +50,11 @@ enum Want {
     /// As both programs have it.
     Any,
     Line(String),
-    /// The jump counts of a DUMP.
-    Counts(String),
+    /// The jump counts of a DUMP, and whether it ends with the line of home in item 0.
+    Counts {
+        counts: String,
+        home: bool,
+    },
 }
 
 /// A record, the row it comes from, and what it must print.
@@ -69,7 +72,7 @@ pub struct Script<'a> {
 
 impl Script<'_> {
     pub fn of(rows: &[Row]) -> Script<'_> {
-        let mut writer = Writer { host: USUAL, row: 0, steps: Vec::new() };
+        let mut writer = Writer { host: USUAL, home: false, row: 0, steps: Vec::new() };
         writer.fresh();
         for (number, row) in rows.iter().enumerate() {
             writer.row = number;
@@ -94,6 +97,8 @@ impl Script<'_> {
 /// Makes the records of rows one by one.
 struct Writer {
     host: Host,
+    /// Whether fresh starts have home in item 0.
+    home: bool,
     row: usize,
     steps: Vec<Step>,
 }
@@ -105,7 +110,7 @@ impl Writer {
 
     fn fresh(&mut self) {
         self.host = USUAL;
-        self.push(Record { b: [STORE_FILL, 0, 0, 0, 0], ..Record::of(record::FRESH) }, Want::Any);
+        self.push(Record::fresh(STORE_FILL, self.home), Want::Any);
     }
 
     fn pokes(&mut self, pokes: Vec<Record>) {
@@ -114,7 +119,10 @@ impl Writer {
 
     fn set(&mut self, setting: &Setting) {
         match setting {
-            Setting::Fresh => self.fresh(),
+            Setting::Fresh { home } => {
+                self.home = *home;
+                self.fresh();
+            }
             Setting::Own(own) => self.host.own = *own,
             Setting::Sender(sender) => self.host.sender = *sender,
             Setting::Clock(clock) => self.host.clock = *clock,
@@ -125,8 +133,10 @@ impl Writer {
                 self.push(Record::about(record::SNAP, array::STORE), Want::Any);
                 self.push(Record::about(record::SNAP, array::OLD), Want::Any);
             }
-            Setting::Current(item) => {
-                self.push(Record::poke(field::CURRENT, 0, u32::from(*item)), Want::Any)
+            Setting::Current { item, begun } => {
+                let mut values = vec![u32::from(*item)];
+                values.extend(begun.map(u32::from));
+                self.pokes(Record::pokes(field::CURRENT, 0, &values));
             }
             Setting::Plan { kind, numbers } => {
                 self.pokes(Record::pokes(field::LENGTH, *kind, numbers))
@@ -227,7 +237,10 @@ impl Writer {
         self.push(done, Want::Line(format!("d {answer}")));
         let shown = match counts {
             None => Want::Any,
-            Some(counts) => Want::Counts(counts.map(|count| count.to_string()).join(" ")),
+            Some(counts) => {
+                let counts = counts.map(|count| count.to_string()).join(" ");
+                Want::Counts { counts, home: self.home }
+            }
         };
         self.push(Record::of(record::DUMP), shown);
     }
@@ -320,19 +333,24 @@ fn shares<'a>(steps: &[Step], text: &'a str) -> Vec<Vec<&'a str>> {
     shares
 }
 
+/// A DUMP's last line where home is in item 0.
+const HOME_LINE: &str = "h 1\n";
+
 /// True if a DUMP may print the line; no call prints one that begins so.
 fn of_dump(line: &str) -> bool {
-    line.starts_with(['D', 'k', 'u', 'i', 'w', 'c'])
+    line.starts_with(['D', 'k', 'u', 'i', 'w', 'c', 'h'])
 }
 
 impl Want {
     fn holds(&self, share: &[&str]) -> bool {
-        let last = share.last().and_then(|line| line.strip_suffix('\n'));
-        match (self, last) {
+        match (self, share) {
             (Want::Any, _) => true,
-            (Want::Line(line), Some(last)) => line == last,
-            (Want::Counts(counts), Some(last)) => counts_of(last) == Some(counts),
-            (_, None) => false,
+            (Want::Line(wanted), [.., last]) => last.strip_suffix('\n') == Some(wanted),
+            (Want::Counts { counts, home: false }, [.., last])
+            | (Want::Counts { counts, home: true }, [.., last, HOME_LINE]) => {
+                last.strip_suffix('\n').and_then(counts_of) == Some(counts)
+            }
+            _ => false,
         }
     }
 
@@ -340,7 +358,10 @@ impl Want {
         match self {
             Want::Any => "the same of each".to_string(),
             Want::Line(line) => line.clone(),
-            Want::Counts(counts) => format!("c CURRENT BEGUN {counts}"),
+            Want::Counts { counts, home } => {
+                let then_home = if *home { ", h 1" } else { "" };
+                format!("c CURRENT BEGUN {counts}{then_home}")
+            }
         }
     }
 }
@@ -532,6 +553,26 @@ mod tests {
             found.iter().map(|miss| (miss.line, &miss.got[0].1[..])).collect::<Vec<_>>(),
             shown
         );
+    }
+
+    #[test]
+    fn home_stays_until_the_next_fresh_start() {
+        let text = "with home: f home\n\
+                    another start: u 0 1 22 3 > 3\n\
+                    its plan: d > 1 finished\n\
+                    without home: f\n\
+                    a start again: u 0 1 22 3 > 0\n\
+                    item 0: d > 1 fly 0\n";
+        let rows = table::read(text).unwrap();
+        let script = Script::of(&rows);
+        let good = Printed::by_reference(&script).text;
+        assert_eq!(misses(&script, &[console(good.clone())]), []);
+        let of_home = good.replacen("h 1\n", "", 1);
+        let found = misses(&script, &[console(of_home)]);
+        let wanted = format!("c CURRENT BEGUN {}, h 1", ["0"; MAX_JUMPS].join(" "));
+        assert_eq!((found.len(), found[0].line, &found[0].wanted), (1, 3, &wanted));
+        let of_none = format!("{good}h 1\n");
+        assert_eq!(misses(&script, &[console(of_none)])[0].line, 6);
     }
 
     #[test]

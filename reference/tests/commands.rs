@@ -1,4 +1,4 @@
-//! The commands `vectors`, `moved` and `letter`: their status and what they print.
+//! The commands `vectors`, `moved`, `letter`, `generate` and `faults`: their status and what they print.
 
 use std::fs;
 use std::path::PathBuf;
@@ -123,4 +123,31 @@ fn a_story_that_cannot_be_played() {
     assert!(error.contains("line 2: soon: nothing more is asked for"), "{error}");
     let arguments = ["letter", "--story", "no such story", "--console", PROGRAM];
     assert_eq!(run(&arguments).0, Some(2));
+}
+
+#[test]
+fn lists_with_and_without_home() {
+    let list = |options: &[&str]| {
+        let script = Scratch::new(&format!("list{}", options.len()), "");
+        let asked = ["generate", "--seed", "3", "--calls", "50", "--out", script.name()];
+        assert_eq!(run(&[&asked[..], options].concat()).0, Some(0));
+        fs::read(script.name()).unwrap()
+    };
+    let setting = |script: Vec<u8>| (script[0], script[5]);
+    assert_eq!([list(&[]), list(&["--home"])].map(setting), [(5, 0), (5, 1)]);
+    let (status, _, error) = run(&["generate", "--seed", "3", "--home", "--calls"]);
+    assert_eq!(status, Some(2));
+    assert!(error.starts_with("reference play"));
+}
+
+#[test]
+fn faults_name_their_lists() {
+    let (status, out, _) = run(&["faults"]);
+    assert_eq!(status, Some(0));
+    let list_of = |name| {
+        let mut faults = out.lines().map(|line| line.split_whitespace());
+        faults.find(|words| words.clone().next() == Some(name)).and_then(|mut words| words.nth(1))
+    };
+    assert_eq!(list_of("expiry-249"), Some("-"));
+    assert_eq!(list_of("home0-after-frame"), Some("--home"));
 }

@@ -1,6 +1,8 @@
 //! Partial uploads (request M-108): ranges, what is requested and taken, and what
 //! the last item does.
 
+#[path = "drone/changes.rs"]
+mod changes;
 mod drone;
 
 use drone::*;
@@ -14,21 +16,6 @@ const FENCE_KIND: u8 = FENCE as u8;
 const RALLY_KIND: u8 = RALLY as u8;
 
 impl Drone {
-    fn change(&mut self, sender: Address, kind: u8, start: i16, end: i16) -> Option<Message> {
-        self.send(sender, Message::WritePartialList { start, end, to: OWN, kind })
-    }
-
-    /// Changes items from `first` on, and gives the last reply.
-    fn change_all(&mut self, kind: u8, first: u16, items: &[Item]) -> Option<Message> {
-        let end = first as i16 + items.len() as i16 - 1;
-        let mut reply = self.change(STATION, kind, first as i16, end);
-        for (seq, item) in (first..).zip(items) {
-            assert_eq!(reply, request(STATION, seq, kind));
-            reply = self.item(STATION, Item { seq, kind, ..*item });
-        }
-        reply
-    }
-
     /// The items of a plan as they are read back, but for address and current field.
     fn plan(&mut self, kind: u8) -> Vec<Item> {
         let asked = |drone: &mut Drone, seq| match drone

@@ -3,11 +3,10 @@
 mod drone;
 
 use drone::*;
-use reference::fault::Fault;
 use reference::layout::{Item, Message};
 use reference::limits::*;
 use reference::search::Command;
-use reference::service::Service;
+use reference::state::State;
 
 #[test]
 fn counts_at_the_sizes() {
@@ -278,5 +277,5 @@ fn refusals_in_order() {
     assert_eq!(outcome(&mut drone, 43, &[2]), 13);
     assert_eq!(outcome(&mut drone, 43, &[0, 2]), 13);
     assert_eq!(outcome(&mut drone, 43, &[1, 1]), 0);
-    assert_eq!(drone.service.state, Service::fresh(Fault::None).state);
+    assert_eq!(drone.service.state, State::fresh(false));
 }

@@ -2,7 +2,7 @@
 //! bytes, which are all answered.
 
 use reference::fault::Fault;
-use reference::generate::{scripts, Script};
+use reference::generate::{List, Script};
 use reference::player::play;
 use reference::random::Random;
 
@@ -41,6 +41,16 @@ fn m108_half() {
     prints(include_bytes!("samples/m108_half.bin"), include_str!("samples/m108_half.exp"));
 }
 
+#[test]
+fn m109() {
+    prints(include_bytes!("samples/m109.bin"), include_str!("samples/m109.exp"));
+}
+
+#[test]
+fn m109_host() {
+    prints(include_bytes!("samples/m109_host.bin"), include_str!("samples/m109_host.exp"));
+}
+
 fn prints(mut script: &[u8], expected: &str) {
     let mut lines = Vec::new();
     play(&mut script, &mut lines, Fault::None).unwrap();
@@ -63,8 +73,8 @@ fn any_input_is_answered() {
 #[test]
 fn spoiled_scripts_are_answered() {
     let mut random = Random::new(2);
-    for seed in 0..200 {
-        let mut bytes = Script::joined(scripts(seed, 100)).bytes();
+    for list in (0..200).flat_map(|seed| [List::plain(seed, 100), List::home(seed, 100)]) {
+        let mut bytes = Script::joined(list.scripts()).bytes();
         for _ in 0..random.within(1, 20) {
             let at = random.below(bytes.len());
             bytes[at] = random.byte();

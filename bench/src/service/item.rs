@@ -2,6 +2,7 @@
 
 use super::{result, FENCE, FLIGHT, ITEM_BYTES, MOST_JUMPS, RALLY};
 
+const WAYPOINT: u16 = 16;
 pub const DO_JUMP: u16 = 177;
 pub const RETURN_POINT: u16 = 5000;
 pub const VERTEX_INCLUSION: u16 = 5001;
@@ -63,7 +64,7 @@ enum Params {
 /// Of each command the kind that it belongs to, whether it is positional, and the rule on its params.
 fn command_rule(command: u16) -> Option<(usize, bool, Params)> {
     Some(match command {
-        16 | 18 | 19 => (FLIGHT, true, Params::Amount),
+        WAYPOINT | 18 | 19 => (FLIGHT, true, Params::Amount),
         17 | 21 | 22 | 31 => (FLIGHT, true, Params::Free),
         20 => (FLIGHT, false, Params::Free),
         112 | 114 => (FLIGHT, false, Params::Amount),
@@ -79,13 +80,13 @@ fn command_rule(command: u16) -> Option<(usize, bool, Params)> {
     })
 }
 
-/// The verdict on the expected item of an upload, with so many jumps before it: 0, or the first reason against it.
+/// The verdict on the expected item of an upload, with so many jumps before it, and with or without home in item 0: 0, or the first reason against it.
 #[inline(always)]
-pub fn verdict(item: &Item, kind: usize, count: u16, jumps: usize) -> u8 {
+pub fn verdict(item: &Item, kind: usize, count: u16, jumps: usize, home: bool) -> u8 {
     let Some((belongs, positional, params)) = command_rule(item.command()) else {
         return result::UNSUPPORTED;
     };
-    if belongs != kind {
+    if belongs != kind || home && item.seq() == 0 && item.command() != WAYPOINT {
         return result::UNSUPPORTED;
     }
     match item.frame() {
@@ -93,7 +94,7 @@ pub fn verdict(item: &Item, kind: usize, count: u16, jumps: usize) -> u8 {
         2 if !positional => {}
         _ => return result::UNSUPPORTED_FRAME,
     }
-    let fault = params_fault(item, params, count);
+    let fault = params_fault(item, params, count, home);
     if fault != result::ACCEPTED {
         return fault;
     }
@@ -106,14 +107,14 @@ pub fn verdict(item: &Item, kind: usize, count: u16, jumps: usize) -> u8 {
     result::ACCEPTED
 }
 
-fn params_fault(item: &Item, params: Params, count: u16) -> u8 {
+fn params_fault(item: &Item, params: Params, count: u16, home: bool) -> u8 {
     let (first, second) = (item.param1(), item.param2());
     let (first_fits, second_fits) = match params {
         Params::Free => (true, true),
         Params::Amount => ((0.0..f32::INFINITY).contains(&first), true),
         Params::Heading => ((0.0..=360.0).contains(&first), true),
         Params::Jump => {
-            let target = whole_within(first, 0, i32::from(count) - 1);
+            let target = whole_within(first, i32::from(home), i32::from(count) - 1);
             let own = first == f32::from(item.seq());
             (target && !own, second.is_nan() || whole_within(second, -1, 32_767))
         }

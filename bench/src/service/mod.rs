@@ -189,6 +189,8 @@ impl Plan {
 
 /// The service: its state, and two halves with the items of all kinds.
 pub struct Service {
+    /// Whether item 0 of the flight plan is home, as the fresh start chose.
+    home: bool,
     pub plans: [Plan; KINDS],
     current: u16,
     begun: bool,
@@ -197,10 +199,17 @@ pub struct Service {
 }
 
 impl Service {
-    pub fn fresh() -> Service {
+    /// A fresh start, with or without home in item 0.
+    pub fn fresh(home: bool) -> Service {
         let plan = Plan { length: 0, half: 0, number: 0, jumps: 0, upload: None };
-        let items = [[Item::EMPTY; PLACES]; 2];
-        Service { plans: [plan; KINDS], current: 0, begun: false, runs: [0; MOST_JUMPS], items }
+        Service {
+            home,
+            plans: [plan; KINDS],
+            current: 0,
+            begun: false,
+            runs: [0; MOST_JUMPS],
+            items: [[Item::EMPTY; PLACES]; 2],
+        }
     }
 
     /// A message call, lent a store of so many words.
@@ -289,8 +298,10 @@ impl Service {
         }
     }
 
+    /// Home is never chosen: item 1 is in its place.
     fn set_current(&mut self, seq: u16, reply: Out) -> Served {
         let total = self.plans[FLIGHT].length;
+        let seq = seq.max(u16::from(self.home));
         if seq >= total {
             return write(reply, STATUSTEXT, &NO_SUCH_ITEM);
         }
@@ -412,7 +423,8 @@ impl Service {
             return request(reply, upload.next, sender, kind);
         }
         let room_taken = if upload.partial { 0 } else { usize::from(upload.jumps) };
-        let verdict = verdict(item, index, upload.count, room_taken);
+        let home = self.home && index == FLIGHT;
+        let verdict = verdict(item, index, upload.count, room_taken, home);
         if verdict != result::ACCEPTED {
             plan.upload = None;
             return ack(reply, sender, verdict, kind, 0);

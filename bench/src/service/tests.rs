@@ -1,4 +1,4 @@
-//! What the lists of calls cannot reach: refusals by lent memory and by the state's ranges, and numbers that run over.
+//! What the lists of calls cannot reach: refusals by lent memory and by the state's ranges, numbers that run over, and home in item 0.
 
 use super::*;
 
@@ -32,7 +32,7 @@ fn partial() -> Upload {
 
 #[test]
 fn refusals_come_in_their_order() {
-    let mut service = Service::fresh();
+    let mut service = Service::fresh(false);
     service.plans[FENCE].length = 65;
     let (short_store, short_reply) = (STORE_WORDS - 1, REPLY_BYTES - 1);
     assert_eq!(call(&mut service, 0, &[], 0, (short_store, short_reply)).0, 14);
@@ -68,11 +68,11 @@ fn each_number_has_its_range() {
         |service| service.runs[MOST_JUMPS - 1] = 65_535,
     ];
     for spoil in spoil {
-        let mut service = Service::fresh();
+        let mut service = Service::fresh(false);
         spoil(&mut service);
         assert_eq!(call(&mut service, ACK, &[1], 0, LENT), (15, vec![]));
     }
-    let mut service = Service::fresh();
+    let mut service = Service::fresh(false);
     service.plans[FLIGHT].length = 256;
     service.plans[RALLY].upload = Some(Upload { next: 31, repeats: 5, ..upload() });
     service.current = 255;
@@ -83,7 +83,7 @@ fn each_number_has_its_range() {
 #[test]
 fn each_number_of_a_partial_upload_has_its_range() {
     let served = |length, upload: Upload| {
-        let mut service = Service::fresh();
+        let mut service = Service::fresh(false);
         service.plans[FENCE].length = length;
         service.plans[FENCE].upload = Some(upload);
         call(&mut service, ACK, &[1], 0, LENT).0
@@ -108,7 +108,7 @@ fn each_number_of_a_partial_upload_has_its_range() {
 
 #[test]
 fn the_clock_runs_over() {
-    let mut service = Service::fresh();
+    let mut service = Service::fresh(false);
     let count = [1, 0, 1, 1, RALLY as u8];
     let asked = (0, vec![0, 0, 255, 190, RALLY as u8]);
     assert_eq!(call(&mut service, COUNT, &count, 4_294_967_200, LENT), asked);
@@ -120,12 +120,111 @@ fn the_clock_runs_over() {
 
 #[test]
 fn the_plan_number_runs_over_to_one() {
-    let mut service = Service::fresh();
+    let mut service = Service::fresh(false);
     service.plans[RALLY].number = u32::MAX;
     call(&mut service, COUNT, &[1, 0, 1, 1, RALLY as u8], 0, LENT);
-    let mut item = [0; ITEM_BYTES];
-    item[30..32].copy_from_slice(&5100u16.to_le_bytes());
-    item[37] = RALLY as u8;
     let accepted = (0, vec![255, 190, 0, RALLY as u8, 1]);
+    let item = item(RALLY, 0, 5100, 0, 0.0);
     assert_eq!(call(&mut service, ITEM_INT, &item, 0, LENT), accepted);
+}
+
+/// Bytes of an item of a kind.
+fn item(kind: usize, seq: u16, command: u16, frame: u8, param1: f32) -> [u8; ITEM_BYTES] {
+    let mut bytes = [0; ITEM_BYTES];
+    bytes[..4].copy_from_slice(&param1.to_le_bytes());
+    bytes[28..30].copy_from_slice(&seq.to_le_bytes());
+    bytes[30..32].copy_from_slice(&command.to_le_bytes());
+    (bytes[34], bytes[37]) = (frame, kind as u8);
+    bytes
+}
+
+/// The result that the last of some items gets, 0 where the next one is requested; a message before them starts the upload.
+fn result_of(service: &mut Service, id: u32, start: &[u8], items: &[[u8; ITEM_BYTES]]) -> u8 {
+    call(service, id, start, 0, LENT);
+    let reply = items.iter().map(|item| call(service, ITEM_INT, item, 0, LENT).1).last();
+    match reply.unwrap_or_default()[..] {
+        [255, 190, result, ..] => result,
+        _ => 0,
+    }
+}
+
+fn count(kind: usize, count: u8) -> [u8; 5] {
+    [count, 0, 1, 1, kind as u8]
+}
+
+/// The result that the last item of a flight plan gets; those before it are waypoints.
+fn flight_result(service: &mut Service, last: [u8; ITEM_BYTES]) -> u8 {
+    let seq = last[28];
+    let mut items: Vec<_> = (0..seq).map(|seq| item(FLIGHT, seq.into(), 16, 3, 0.0)).collect();
+    items.push(last);
+    result_of(service, COUNT, &count(FLIGHT, seq + 1), &items)
+}
+
+#[test]
+fn home_is_a_waypoint() {
+    for command in [16, 17, 18, 19, 20, 21, 22, 31, 112, 114, 115, 177, 178, 183, 30, 5100] {
+        let expected = if command == 16 { [0, 2] } else { [3, 3] };
+        let at_0 = [3, 1].map(|frame| item(FLIGHT, 0, command, frame, 1.0));
+        let whole = at_0.map(|item| flight_result(&mut Service::fresh(true), item));
+        assert_eq!(whole, expected, "{command}");
+        let partial = at_0.map(|changed| {
+            let mut service = Service::fresh(true);
+            assert_eq!(flight_result(&mut service, item(FLIGHT, 1, 22, 3, 0.0)), 0);
+            result_of(&mut service, WRITE_PARTIAL_LIST, &[0; 6], &[changed])
+        });
+        assert_eq!(partial, expected, "{command}");
+    }
+    assert_eq!(flight_result(&mut Service::fresh(false), item(FLIGHT, 0, 22, 3, 0.0)), 0);
+}
+
+#[test]
+fn fence_and_rally_have_no_home() {
+    for (kind, command) in [(FENCE, 5000), (RALLY, 5100)] {
+        let result = |command| {
+            let items = [item(kind, 0, command, 3, 0.0)];
+            result_of(&mut Service::fresh(true), COUNT, &count(kind, 1), &items)
+        };
+        assert_eq!((result(command), result(16)), (0, 3));
+    }
+}
+
+#[test]
+fn no_jump_leads_home() {
+    for (target, expected) in [(0.0, [6, 0]), (-0.0, [6, 0]), (1.0, [0, 0]), (2.0, [6, 6])] {
+        let jump = item(FLIGHT, 2, 177, 2, target);
+        let results = [true, false].map(|home| flight_result(&mut Service::fresh(home), jump));
+        assert_eq!(results, expected, "{target}");
+    }
+}
+
+#[test]
+fn set_current_0_chooses_1() {
+    let chosen = |service: &mut Service, seq| call(service, SET_CURRENT, &[seq], 0, LENT).1;
+    let mut service = Service::fresh(true);
+    for last in [None, Some(0)] {
+        last.map(|seq| flight_result(&mut service, item(FLIGHT, seq, 16, 3, 0.0)));
+        assert_eq!(chosen(&mut service, 0), NO_SUCH_ITEM);
+        assert_eq!(chosen(&mut service, 1), NO_SUCH_ITEM);
+    }
+    flight_result(&mut service, item(FLIGHT, 2, 16, 3, 0.0));
+    for (seq, chooses) in [(0, 1), (1, 1), (2, 2), (0, 1)] {
+        assert_eq!(chosen(&mut service, seq), [chooses, 0, 3, 0, 0, 0, 2]);
+        assert_eq!(service.current, chooses.into());
+    }
+    assert_eq!(chosen(&mut service, 3), NO_SUCH_ITEM);
+}
+
+#[test]
+fn home_stays() {
+    let mut service = Service::fresh(true);
+    let (home, takeoff) = (item(FLIGHT, 0, 16, 3, 0.0), item(FLIGHT, 0, 22, 3, 0.0));
+    for cleared in [FLIGHT as u8, FENCE as u8, RALLY as u8, ALL_KINDS] {
+        assert_eq!(flight_result(&mut service, home), 0);
+        assert_eq!(result_of(&mut service, WRITE_PARTIAL_LIST, &[0; 6], &[home]), 0);
+        assert_eq!(flight_result(&mut service, takeoff), 3);
+        call(&mut service, CLEAR_ALL, &[1, 1, cleared], 0, LENT);
+        assert_eq!(flight_result(&mut service, takeoff), 3);
+        call(&mut service, COUNT, &count(FLIGHT, 0), 0, LENT);
+        assert_eq!((service.current, flight_result(&mut service, takeoff)), (0, 3));
+    }
 }

@@ -49,12 +49,18 @@ impl Generator {
             8 => Record::poke(field::LAST + 1, 0, 0),
             9 => Record::poke(self.random.pick(&[field::NUMBER, field::PARTIAL]), 3, 0),
             10 => Record::poke(field::JUMP_COUNT, MAX_JUMPS as u8, 0),
-            11 => Record { b: [0, 0, 0, 0, 1], ..of(record::FRESH) },
+            11 => self.last_fresh(),
             12 => Record::about(record::SNAP, self.random.pick(&[2, 3, 255])),
             13 => Record::about(record::CMP, self.random.pick(&[2, 3, 255])),
             14 => Record::moving(OLD_ARRAY as u32 + 1, 0),
             _ => Record::moving(0, past_store),
         }
+    }
+
+    /// A fresh start with a reserved setting; in lists without home, one with home.
+    fn last_fresh(&mut self) -> Record {
+        let setting = if self.of_home { self.random.pick(&[2, 3, 128, 255]) } else { HOME };
+        Record::about(record::FRESH, setting)
     }
 
     /// A WRITE of no known target, of no whole words or items, or past the end.

@@ -1,5 +1,6 @@
 //! Episodes: each drives the service into one part of its rules for some calls.
 
+use super::home::HOME_EPISODES;
 use super::{values, Generator};
 use crate::fault::Fault;
 use crate::layout::*;
@@ -7,7 +8,7 @@ use crate::limits::*;
 use crate::script::{field, record, Record};
 use crate::state::Upload;
 
-type Episode = fn(&mut Generator);
+pub(super) type Episode = fn(&mut Generator);
 
 const EPISODES: &[(usize, Episode)] = &[
     (24, Generator::small_upload),
@@ -52,7 +53,9 @@ impl Generator {
         if self.random.chance(1, 6) {
             self.snap();
         }
-        let episode = self.random.weighted(EPISODES);
+        let of_home = self.of_home && self.random.chance(1, 2);
+        let episodes = if of_home { HOME_EPISODES } else { EPISODES };
+        let episode = self.random.weighted(episodes);
         episode(self);
         if self.random.chance(1, 6) {
             self.compare();
@@ -77,7 +80,7 @@ impl Generator {
             false => self.uploader(kind),
         };
         self.send_count(station, kind as u8, items.len() as u16);
-        self.planned[kind] = items;
+        self.planned[kind] = self.mostly_homed(kind, items);
     }
 
     /// Goes on with an upload to its end; every `calm` calls or so something
@@ -199,7 +202,8 @@ impl Generator {
     }
 
     fn fly_loop(&mut self) {
-        let items = values::jump_loop(&mut self.random);
+        let before = usize::from(self.state().home);
+        let items = values::jump_loop(&mut self.random, before);
         self.upload_plan(FLIGHT, items);
         self.done();
         self.maybe_dump(1, 2);

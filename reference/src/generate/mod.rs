@@ -1,5 +1,6 @@
 //! Hostile call lists by seed. The generator plays its own records, so that it
-//! knows which uploads run and can go on with them.
+//! knows which uploads run and can go on with them. Lists of home have fresh
+//! starts with home in item 0 (request M-109), and what that brings about.
 //!
 //! After an expected invalid item, or a last item whose fence fails, the words
 //! of its place are free; after a partial upload whose whole fails, those of as
@@ -8,6 +9,7 @@
 
 mod endings;
 mod episodes;
+mod home;
 mod host;
 mod moves;
 mod noise;
@@ -72,20 +74,42 @@ impl Script {
     }
 }
 
-/// The scripts of a seed, with `calls` calls together.
-pub fn scripts(seed: u64, calls: usize) -> impl Iterator<Item = Script> {
-    let full = calls / CALLS_PER_SCRIPT;
-    let rest = calls % CALLS_PER_SCRIPT;
-    let sizes = std::iter::repeat_n(CALLS_PER_SCRIPT, full).chain((rest > 0).then_some(rest));
-    sizes.enumerate().map(move |(number, size)| {
-        let mixed = Random::new(seed).draw() ^ number as u64;
-        Generator::new(mixed).script(size)
-    })
+/// Which list: its seed, the number of its calls, and whether it is one of home.
+#[derive(Clone, Copy, Debug)]
+pub struct List {
+    pub seed: u64,
+    pub calls: usize,
+    pub home: bool,
+}
+
+impl List {
+    /// A list without home in item 0.
+    pub fn plain(seed: u64, calls: usize) -> List {
+        List { seed, calls, home: false }
+    }
+
+    /// A list of home.
+    pub fn home(seed: u64, calls: usize) -> List {
+        List { seed, calls, home: true }
+    }
+
+    /// The scripts of the list, which have its calls together.
+    pub fn scripts(self) -> impl Iterator<Item = Script> {
+        let full = self.calls / CALLS_PER_SCRIPT;
+        let rest = self.calls % CALLS_PER_SCRIPT;
+        let sizes = std::iter::repeat_n(CALLS_PER_SCRIPT, full).chain((rest > 0).then_some(rest));
+        sizes.enumerate().map(move |(number, size)| {
+            let mixed = Random::new(self.seed).draw() ^ number as u64;
+            Generator::new(mixed, self.home).script(size)
+        })
+    }
 }
 
 /// The state that the next record starts from, and what was made so far.
 struct Generator {
     random: Random,
+    /// Whether the list is one of home.
+    of_home: bool,
     mirror: Player,
     records: Vec<Record>,
     calls: usize,
@@ -101,9 +125,10 @@ struct Generator {
 }
 
 impl Generator {
-    fn new(seed: u64) -> Generator {
+    fn new(seed: u64, of_home: bool) -> Generator {
         Generator {
             random: Random::new(seed),
+            of_home,
             mirror: Player::new(Fault::None),
             records: Vec::new(),
             calls: 0,
@@ -395,7 +420,8 @@ impl Generator {
         self.comparable = false;
         self.own = self.random.weighted(&OWN_ADDRESSES);
         let fill = self.random.pick(&[0, 0xEE, 0xFF, 0xB1, 0x10]);
-        self.emit(Record { b: [fill, 0, 0, 0, 0], ..Record::of(record::FRESH) });
+        let home = self.of_home && self.random.chance(7, 8);
+        self.emit(Record::fresh(fill, home));
     }
 
     fn poke(&mut self, poked: u8, index: usize, value: u32) {
@@ -444,14 +470,18 @@ mod tests {
 
     #[test]
     fn a_seed_gives_one_list() {
-        let list = |seed| scripts(seed, 3000).map(|script| script.bytes()).collect::<Vec<_>>();
-        assert_eq!(list(1), list(1));
-        assert_ne!(list(1), list(2));
+        let bytes = |list: List| list.scripts().map(|script| script.bytes()).collect::<Vec<_>>();
+        for list in [List::plain, List::home] {
+            let bytes = |seed| bytes(list(seed, 3000));
+            assert_eq!(bytes(1), bytes(1));
+            assert_ne!(bytes(1), bytes(2));
+        }
     }
 
     #[test]
     fn no_two_lists_share_a_script() {
-        let all: Vec<_> = (1..=12).flat_map(|seed| scripts(seed, 20_000)).collect();
+        let lists = (1..=12).flat_map(|seed| [List::plain(seed, 20_000), List::home(seed, 20_000)]);
+        let all: Vec<_> = lists.flat_map(List::scripts).collect();
         let different: HashSet<_> = all.iter().map(Script::bytes).collect();
         assert_eq!(different.len(), all.len());
     }
@@ -459,8 +489,10 @@ mod tests {
     #[test]
     fn calls_are_counted() {
         for calls in [1, 10, 1999, 2000, 4500] {
-            let total: usize = scripts(3, calls).map(|script| script.calls()).sum();
-            assert_eq!(total, calls);
+            for list in [List::plain(3, calls), List::home(3, calls)] {
+                let total: usize = list.scripts().map(|script| script.calls()).sum();
+                assert_eq!(total, calls);
+            }
         }
     }
 }

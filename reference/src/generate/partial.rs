@@ -81,13 +81,13 @@ impl Generator {
     }
 
     /// Starts a partial upload of planned items, mostly from the station that uploads.
-    fn start_change(&mut self, kind: usize, (first, last): Span, items: Vec<Item>) {
+    pub(super) fn start_change(&mut self, kind: usize, (first, last): Span, items: Vec<Item>) {
         let station = match self.random.chance(1, 12) {
             true => self.any_station(),
             false => self.uploader(kind),
         };
         self.send_change(station, kind as u8, (first as i16, last as i16));
-        self.planned[kind] = items;
+        self.planned[kind] = self.mostly_homed(kind, items);
     }
 
     /// Starts a partial upload of valid items, if there is a plan; else sends one's start.
@@ -138,7 +138,7 @@ impl Generator {
     }
 
     /// Changes a span with planned items to the end, and looks at what stands.
-    fn change(&mut self, kind: usize, span: Span, items: Vec<Item>) {
+    pub(super) fn change(&mut self, kind: usize, span: Span, items: Vec<Item>) {
         self.start_change(kind, span, items);
         let upload = self.upload(kind);
         self.go_on(kind, 14, false);

@@ -2,7 +2,7 @@
 //! of every rule.
 
 use crate::items::{DO_JUMP, LAND, NANS, RETURN_HOME, RETURN_POINT};
-use crate::items::{VERTEX_EXCLUSION, VERTEX_INCLUSION};
+use crate::items::{VERTEX_EXCLUSION, VERTEX_INCLUSION, WAYPOINT};
 use crate::layout::{address, Item};
 use crate::limits::*;
 use crate::random::Random;
@@ -270,17 +270,19 @@ fn circles_to_return_points(items: &mut [Item]) {
 }
 
 /// A plan that follows about 64 jumps in its first search, with jumps that are
-/// passed over in between.
-pub fn jump_loop(random: &mut Random) -> Vec<Item> {
+/// passed over in between. So many items that are no jumps stand before them.
+pub fn jump_loop(random: &mut Random, before: usize) -> Vec<Item> {
     let forever = (-1.0f32).to_bits();
     let passed = random.below(4);
-    let back = 1 + passed;
+    let back = before + 1 + passed;
     let repeat = bits(random.within(29, 34));
-    let mut items = vec![jump_to(random, 0, 1, forever)];
-    for number in 1..=passed {
-        items.push(jump_to(random, number as u16, 0, zero(number % 2 == 1)));
+    let mut items: Vec<Item> =
+        (0..before).map(|number| without_jump(random, FLIGHT, number as u16)).collect();
+    items.push(jump_to(random, before as u16, before + 1, forever));
+    for number in before + 1..back {
+        items.push(jump_to(random, number as u16, before, zero(number % 2 == 1)));
     }
-    items.push(jump_to(random, back as u16, 0, repeat));
+    items.push(jump_to(random, back as u16, before, repeat));
     for number in back + 1..back + 1 + random.within(1, 3) {
         items.push(without_jump(random, FLIGHT, number as u16));
     }
@@ -290,6 +292,51 @@ pub fn jump_loop(random: &mut Random) -> Vec<Item> {
 /// Zero, with and without a sign.
 fn zero(negative: bool) -> u32 {
     u32::from(negative) << 31
+}
+
+/// Makes item 0 of a flight plan a waypoint, and no jump lead to it.
+pub fn put_home(random: &mut Random, items: &mut [Item]) {
+    let count = items.len() as u16;
+    for (number, item) in (0..).zip(items) {
+        let other = if number == 1 { 2 } else { 1 };
+        if number == 0 {
+            *item = item_of(random, FLIGHT, number, count, WAYPOINT);
+        } else if item.command == DO_JUMP && [zero(false), zero(true)].contains(&item.params[0]) {
+            match other < count {
+                true => item.params[0] = bits(usize::from(other)),
+                false => *item = without_jump(random, FLIGHT, number),
+            }
+        }
+    }
+}
+
+/// An item for place 0 of a flight plan: of any command, its frame often one that does
+/// not fit, or with another field at an edge.
+pub fn at_0(random: &mut Random, count: u16) -> Item {
+    let command = match random.below(4) {
+        0 => WAYPOINT,
+        1 => edge_command(random),
+        _ => random.pick(&FLIGHT_COMMANDS),
+    };
+    let mut item = item_of(random, FLIGHT, 0, count, command);
+    match random.below(4) {
+        0 => item.frame = random.pick(&[1, 2, 4, 255]),
+        1 => spoil(random, &mut item, count),
+        _ => {}
+    }
+    item
+}
+
+/// A jump to 0, with and without a sign, or to a place beside; its repeat fits or not.
+pub fn jump_home(random: &mut Random, number: u16, count: u16) -> Item {
+    let mut item = jump(random, number, count);
+    let last = usize::from(count.max(1) - 1);
+    let targets = [zero(false), zero(true), zero(true), bits(1), bits(last), 1];
+    item.params[0] = random.pick(&targets);
+    if random.chance(1, 4) {
+        item.params[1] = edge_param(random, &item, count, 1);
+    }
+    item
 }
 
 /// An item of a kind with some fields at an edge, valid or not.

@@ -22,8 +22,13 @@ pub struct Drone {
 
 impl Drone {
     pub fn fresh() -> Drone {
+        Drone::with_setting(false)
+    }
+
+    /// A fresh start with or without home in item 0.
+    pub fn with_setting(home: bool) -> Drone {
         Drone {
-            service: Service::fresh(Fault::None),
+            service: Service::fresh(home, Fault::None),
             store: vec![0xEEEE_EEEE; STORE_WORDS],
             reply: vec![0xA5; REPLY_BYTES],
             clock: 0,
