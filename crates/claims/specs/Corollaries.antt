@@ -1,6 +1,6 @@
 -- What demand 3 says of the service in plain terms: of the state and the store before and after, and of what the calls gave. Each follows from demand 3
 -- by what the rules alone say of lists of calls (`call_lists`).
-use Prim.Native.Nat.{ℕ, _+_, _<_}
+use Prim.Native.Nat.{ℕ, _+_, _≤_, _<_}
 use mathlib.Core.Path.{_≡_, refl, sym, ap, subst, _∙_}
 use mathlib.Core.Logic.{_⊎_}
 use mathlib.Core.Bool.{Bool, true}
@@ -12,15 +12,18 @@ use Rattle.rules.specs.Payload.{Bytes}
 use Rattle.rules.specs.Messages.{Station, Item, Message, ack, requestInt, itemInt, decode, itemOf}
 use Rattle.rules.specs.Model.{Task, Shown, Model, fresh, planOf, lengthOf, uploadOf, noCounts, nextNumber, put}
 use Rattle.rules.specs.Calls.{Call, Request, clears, asksItem, brings, request, expiry, commandDone}
-use Rattle.rules.specs.Step.{Answer, says, ReadsBack, currentField, run, answers}
+use Rattle.rules.specs.Step.{Answer, says, ReadsBack, currentField, step, run, answers}
 use Rattle.rule_laws.specs.Fitting.{CallsFit}
 use Rattle.call_lists.specs.Uploads.{shownBy, hears, answerTo, Starts, expectedBy, Open, Completes}
 use Rattle.call_lists.specs.Corollaries as rule
 use Rattle.call_lists.specs.Corollaries.{Says, Spares, NeverCompleted, NeverSteered, Unsteered, progressOf, since, uploadedItems}
+use Rattle.call_lists.specs.Home.{Carries, home-never-flown, never-begun}
 use Rattle.call_lists.specs.Laws.Lists.{answers-snoc}
+use Rattle.call_lists.specs.Laws.Setting.{step-home, setting}
 use Rattle.claims.specs.Demand3.{Got, gotOf, AllRead, stop, call}
 use Rattle.claims.specs.Service.{World, start, shows, Trace, demand-3}
 use Rattle.places.specs.Forms.{Store}
+use Rattle.plan.specs.View.{viewIn}
 
 -- ---- one more call
 
@@ -236,3 +239,31 @@ pub item-comes-back :
 item-comes-back {home} {pre} {c} {c′} {k} {items} {v} {w} {g} called done fit o now i d sent below =
     subst (λ (a : Answer). ReadsBack a (g .id) (g .reply)) (rule.item-answered home pre c c′ k items done o now i d fit sent below) (reads called)
     ∙ ap (λ (m : Model). itemInt o (currentField k (done .task .first + i) (m .shown .current)) (getD (uploadedItems home done) i d)) (sym (before called))
+
+-- ---- item 0 as home
+
+-- After every list of calls the setting is the one "chosen at the fresh start".
+pub setting-stands : {home : Bool} {s : Store} {cs : List Call} {gs : List Got} {w : World} → Trace (start home s) cs gs w → w .state .home ≡ home
+unfolding viewIn
+setting-stands {home} {s} {cs} {gs} {w} trace = ap (λ (m : Model). m .shown .home) (demand-3 home s cs gs w trace .model) ∙ setting home cs
+
+-- none of what was given is a command with this number
+abbrev pub NoneCarries : List Got → (i : ℕ) → Type 0
+NoneCarries [] i = Unit {0}
+NoneCarries (g ∷ gs) i = (Carries (g .command) i → ⊥) × NoneCarries gs i
+
+none-carries : (m : Model) → m .shown .home ≡ true → (cs : List Call) → NoneCarries (map gotOf (answers m cs)) 0
+unfolding answers
+none-carries m is [] = tt
+none-carries m is (c ∷ cs) = (home-never-flown m is c, none-carries (step m c .model) (step-home m c ∙ is) cs)
+
+-- With the setting no answer carries number 0: (M-109) item 0 "is never flown",
+pub home-not-flown : {s : Store} {cs : List Call} {gs : List Got} {w : World} → Trace (start true s) cs gs w → NoneCarries gs 0
+home-not-flown {s} {cs} {gs} {w} trace =
+    subst (λ (l : List Got). NoneCarries l 0) (sym (demand-3 true s cs gs w trace .answered)) (none-carries (fresh true) refl cs)
+
+-- and never begun.
+pub home-not-begun : {s : Store} {cs : List Call} {gs : List Got} {w : World} → Trace (start true s) cs gs w → w .state .begun ≡ true → 1 ≤ w .state .current
+unfolding viewIn
+home-not-begun {s} {cs} {gs} {w} trace =
+    subst (λ (m : Model). m .shown .begun ≡ true → 1 ≤ m .shown .current) (sym (demand-3 true s cs gs w trace .model)) (never-begun cs)
