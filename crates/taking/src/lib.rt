@@ -112,7 +112,9 @@ fn judge(
     let upload = plan.upload;
     match upload {
         Upload::Idle => Judged::Refused(INVALID_SEQUENCE),
-        Upload::Running(run) => { judge_running(home, store, kind, plan, run, system, component, item) }
+        Upload::Running(run) => {
+            judge_running(home, store, kind, plan, run, system, component, item)
+        }
     }
 }
 
