@@ -42,7 +42,7 @@ AllRead (g ∷ gs) [] = ⊥
 AllRead (g ∷ gs) (a ∷ rest) = ReadsBack a (g .id) (g .reply) × AllRead gs rest
 
 -- `Lent c n` says that n of the store's numbers are what call c is lent: as many as the call says, where the store is counted as the rules count it.
-module _ (State : Type 0) (freshState : State) (view : State → Store → Model) (half : State → ℕ → Bool) (spare : State → Call → ℕ → Bool) (Lent : Call → ℕ → Type 0) where
+module _ (State : Type 0) (view : State → Store → Model) (half : State → ℕ → Bool) (spare : State → Call → ℕ → Bool) (Lent : Call → ℕ → Type 0) where
   -- what a call with this result gave, the reply's bytes being the first of the buffer after it
   abbrev pub got : Result State → (buffer : Bytes) → Got
   got r buffer = record { outcome = r .outcome; id = r .id; len = r .len; reply = take (r .len) buffer; command = r .command }
@@ -62,53 +62,53 @@ module _ (State : Type 0) (freshState : State) (view : State → Store → Model
         → Trace (record { state = r .state; store = lent′ ++ rest }) cs gs z
         → Trace w (c ∷ cs) (got r b′ ∷ gs) z
 
-  pub record Demand3 (cs : List Call) (gs : List Got) (w : World) : Type 0 where
-    -- "after the list the plans, plan numbers, current item, whether it is begun, and jump counts are exactly those of the book", the uploads too
-    pub model : view (w .state) (w .store) ≡ run fresh cs
+  pub record Demand3 (home : Bool) (cs : List Call) (gs : List Got) (w : World) : Type 0 where
+    -- "after the list the plans, plan numbers, current item, whether it is begun, and jump counts are exactly those of the book", the uploads and the setting too
+    pub model : view (w .state) (w .store) ≡ run (fresh home) cs
     -- every answer is the rules', the bytes of its reply too
-    pub answered : gs ≡ map gotOf (answers fresh cs)
+    pub answered : gs ≡ map gotOf (answers (fresh home) cs)
     -- "What we write reads back as what was meant."
-    pub reads : AllRead gs (answers fresh cs)
+    pub reads : AllRead gs (answers (fresh home) cs)
     -- "15 can't come up"
-    pub ranged : (pre post : List Call) (c : Call) → cs ≡ pre ++ (c ∷ post) → answerTo pre c ≡ refused outOfRange → ⊥
+    pub ranged : (pre post : List Call) (c : Call) → cs ≡ pre ++ (c ∷ post) → answerTo home pre c ≡ refused outOfRange → ⊥
     -- "only completed uploads, allowed clears, accepted item choices and advances change these, each at one stroke"
-    pub only : (pre post : List Call) (c : Call) → cs ≡ pre ++ (c ∷ post) → Stroke pre c (shownBy (pre ++ (c ∷ [])))
+    pub only : (pre post : List Call) (c : Call) → cs ≡ pre ++ (c ∷ post) → Stroke home pre c (shownBy home (pre ++ (c ∷ [])))
     -- an upload that arrives takes effect at its last item: "the sender's own items taken since its count, as they came, all and in order"; (M-108) of a part "the sender's
     -- items taken since its 38, over the plan's from start to end"
     pub takesEffect :
-        (pre post : List Call) (c : Call) → cs ≡ pre ++ (c ∷ post) → (k : ℕ) (items : List Bytes) (d : Completes pre c k items)
-        → shownBy (pre ++ (c ∷ [])) ≡ put (d .task .partial) k items (shownBy pre)
+        (pre post : List Call) (c : Call) → cs ≡ pre ++ (c ∷ post) → (k : ℕ) (items : List Bytes) (d : Completes home pre c k items)
+        → shownBy home (pre ++ (c ∷ [])) ≡ put (d .task .partial) k items (shownBy home pre)
     -- "an empty one at its count", and an allowed clear
     pub empties :
-        (pre post : List Call) (c : Call) → cs ≡ pre ++ (c ∷ post) → (ks : List ℕ) → Empties pre c ks → shownBy (pre ++ (c ∷ [])) ≡ empty ks (shownBy pre)
+        (pre post : List Call) (c : Call) → cs ≡ pre ++ (c ∷ post) → (ks : List ℕ) → Empties home pre c ks → shownBy home (pre ++ (c ∷ [])) ≡ empty ks (shownBy home pre)
     -- a fitting COUNT is let in unless another station's upload of the kind is open
     pub letsIn :
         (pre post : List Call) (c : Call) → cs ≡ pre ++ (c ∷ post) → (k : ℕ) (o : Station) (now n : ℕ) → hears c ≡ request o now k (announces n) → k ≤ rally → n ≤ sizeOf k
-        → Alone k o pre → letIn (answerTo pre c) ≡ true
+        → Alone home k o pre → letIn (answerTo home pre c) ≡ true
     -- so is a fitting MISSION_WRITE_PARTIAL_LIST
     pub letsPartIn :
         (pre post : List Call) (c : Call) → cs ≡ pre ++ (c ∷ post) → (k : ℕ) (o : Station) (now start end : ℕ) → hears c ≡ request o now k (changes start end)
-        → k ≤ rally → start ≤ end → end < lengthOf (shownBy pre) k → Alone k o pre → letIn (answerTo pre c) ≡ true
+        → k ≤ rally → start ≤ end → end < lengthOf (shownBy home pre) k → Alone home k o pre → letIn (answerTo home pre c) ≡ true
     -- either is denied then
     pub denied :
         (pre post : List Call) (c : Call) → cs ≡ pre ++ (c ∷ post) → (k : ℕ) (o o′ : Station) (t : Task) (q : Request) (got : List Bytes) (started repeats now : ℕ)
-        → Open k o t pre got started repeats → (o′ ≡ o → ⊥) → Starts q → hears c ≡ request o′ now k q → answerTo pre c ≡ says (ack o′ Limits.denied k 0)
+        → Open home k o t pre got started repeats → (o′ ≡ o → ⊥) → Starts q → hears c ≡ request o′ now k q → answerTo home pre c ≡ says (ack o′ Limits.denied k 0)
 
-  -- demand 3
-  abbrev pub Demand : Type 0
-  Demand = (s : Store) (cs : List Call) (gs : List Got) (w : World) → Trace (record { state = freshState; store = s }) cs gs w → Demand3 cs gs w
+  -- demand 3, over the setting; (M-109) it "has it fixed for the whole run"
+  abbrev pub Demand : (freshState : (home : Bool) → State) → Type 0
+  Demand freshState = (home : Bool) (s : Store) (cs : List Call) (gs : List Got) (w : World) → Trace (record { state = freshState home; store = s }) cs gs w → Demand3 home cs gs w
 
   -- ---- what the proof asks of the view: a fresh state shows the fresh model, ranges are the state's own, and a call's part of the store is enough
 
-  pub record Shows : Type 0 where
-    pub starts : (s : Store) → view freshState s ≡ fresh
+  pub record Shows (freshState : (home : Bool) → State) : Type 0 where
+    pub starts : (home : Bool) (s : Store) → view (freshState home) s ≡ fresh home
     pub ranges : (st : State) (s s′ : Store) → inRange (view st s) ≡ inRange (view st s′)
     -- how much of the store is enough
     pub least : ℕ
     pub counts : (c : Call) (n : ℕ) → Lent c n → ltb n least ≡ ltb (storeLent c) storeWords
     pub front : (st : State) (lent rest : Store) → least ≤ length lent → inRange (view st lent) ≡ true → view st (lent ++ rest) ≡ view st lent
 
-  module _ (shows : Shows) where
+  module _ (freshState : (home : Bool) → State) (shows : Shows freshState) where
     -- one call from a formed model
     pub record Stepping (m : Model) (c : Call) (st′ : State) (s′ : Store) (g : Got) : Type 0 where
       pub after : view st′ s′ ≡ step m c .model
@@ -183,18 +183,18 @@ module _ (State : Type 0) (freshState : State) (view : State → Store → Model
           reads = (first .read, later .reads);
         }
 
-    pub demand3 : Demand
-    demand3 s cs gs w trace =
-        let all = ends fresh fresh-formed (shows .starts s) trace in
+    pub demand3 : Demand freshState
+    demand3 home s cs gs w trace =
+        let all = ends (fresh home) (fresh-formed home) (shows .starts home s) trace in
         record {
           model = all .model;
           answered = all .answered;
           reads = all .reads;
-          ranged = λ pre post c e. never-out-of-range pre c;
-          only = λ pre post c e. only-strokes pre c;
-          takesEffect = λ pre post c e. takes-effect pre c;
-          empties = λ pre post c e. empties-effect pre c;
-          letsIn = λ pre post c e. lets-in pre c;
-          letsPartIn = λ pre post c e. lets-part-in pre c;
-          denied = λ pre post c e. denies pre c;
+          ranged = λ pre post c e. never-out-of-range home pre c;
+          only = λ pre post c e. only-strokes home pre c;
+          takesEffect = λ pre post c e. takes-effect home pre c;
+          empties = λ pre post c e. empties-effect home pre c;
+          letsIn = λ pre post c e. lets-in home pre c;
+          letsPartIn = λ pre post c e. lets-part-in home pre c;
+          denied = λ pre post c e. denies home pre c;
         }

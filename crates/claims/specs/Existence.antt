@@ -1,9 +1,9 @@
--- Demand 3 speaks of something: every list of calls that fit, each lent no more than there is, has a trace from a fresh start, over every store, in every form;
+-- Demand 3 speaks of something: every list of calls that fit, each lent no more than there is, has a trace from a fresh start, with either setting and over every store, in every form;
 -- and what the service's calls promise is what traces are made of.
 use Prim.Native.Nat.{ℕ, _+_, _≤_}
 use mathlib.Core.Path.{_≡_, refl, sym, ap, subst, _∙_}
 use mathlib.Core.List.{List, [], _∷_, _++_}
-use mathlib.Core.Bool.{true}
+use mathlib.Core.Bool.{Bool, true}
 use lib.ListN.{length, take, drop, replicate, length-append, length-replicate, take-append-drop}
 use lib.Seq.{length-take-le}
 use Rattle.rules.specs.Limits.{kinds}
@@ -35,13 +35,13 @@ AllLent lend size (c ∷ cs) = (lend c ≤ size) × AllLent lend size cs
 
 module _ (F : Form) (Lent : Call → ℕ → Type 0) where
   abbrev pub WorldIn : Type 0
-  WorldIn = demand.World State freshState (viewIn F) halfOf (spare F) Lent
+  WorldIn = demand.World State (viewIn F) halfOf (spare F) Lent
 
   -- a trace of the calls, whatever they give
   pub record Traced (w : WorldIn) (cs : List Call) : Type 0 where
     pub given : List Got
     pub ends : WorldIn
-    pub trace : Trace State freshState (viewIn F) halfOf (spare F) Lent w cs given ends
+    pub trace : Trace State (viewIn F) halfOf (spare F) Lent w cs given ends
 
   -- a world with three plans that shows a model in its ranges whose numbers fit
   record Ready (w : WorldIn) : Type 0 where
@@ -65,7 +65,7 @@ module _ (F : Form) (lawful : Lawful F) (Lent : Call → ℕ → Type 0) (counts
       λ ranged long. subst ModelFits (sym same ∙ view-front F lawful (w .state) front rest long ranged) (ready .fits) in
       let kept : Kept F lawful c (w .state) front buffer = result-exists F lawful c (w .state) front buffer (ready .three) (counts c (length front) size) (fit .0) fits in
       let z : WorldIn F Lent = record { state = kept .result .state; store = kept .store ++ rest } in
-      let stepped = one State freshState (viewIn F) halfOf (spare F) Lent (form-shows F lawful Lent counts) shown c (w .state) front (kept .store) rest buffer (kept .buffer)
+      let stepped = one State (viewIn F) halfOf (spare F) Lent freshState (form-shows F lawful Lent counts) shown c (w .state) front (kept .store) rest buffer (kept .buffer)
       (kept .result) (ready .formed) same size (kept .serves) in
       let after : viewIn F (z .state) (z .store) ≡ step shown c .model = stepped .after in
       let long : length (z .store) ≡ length (w .store) =
@@ -78,21 +78,22 @@ module _ (F : Form) (lawful : Lawful F) (Lent : Call → ℕ → Type 0) (counts
       })
       (fit .1) (subst (λ (n : ℕ). AllLent lend n cs) (sym long) (lent .1)) in
       record {
-        given = got State freshState (viewIn F) halfOf (spare F) Lent (kept .result) (kept .buffer) ∷ more .given;
+        given = got State (viewIn F) halfOf (spare F) Lent (kept .result) (kept .buffer) ∷ more .given;
         ends = more .ends;
         trace =
             call w c front (kept .store) rest buffer (kept .buffer) (kept .result) cs (more .given) (more .ends) (sym split) size
             (length-replicate (bufferLent c) 0) (kept .serves) (more .trace);
       }
 
-  pub form-trace-exists : (s : Store) (cs : List Call) → CallsFit cs → AllLent lend (length s) cs → Traced F Lent (record { state = freshState; store = s }) cs
-  form-trace-exists s cs fit lent =
-      traced (record { state = freshState; store = s }) cs
-      (record { three = refl; formed = subst Formed (sym (fresh-view F s)) fresh-formed; fits = subst ModelFits (sym (fresh-view F s)) fresh-fits }) fit lent
+  pub form-trace-exists :
+      (home : Bool) (s : Store) (cs : List Call) → CallsFit cs → AllLent lend (length s) cs → Traced F Lent (record { state = freshState home; store = s }) cs
+  form-trace-exists home s cs fit lent =
+      traced (record { state = freshState home; store = s }) cs
+      (record { three = refl; formed = subst Formed (sym (fresh-view F home s)) (fresh-formed home); fits = subst ModelFits (sym (fresh-view F home s)) (fresh-fits home) }) fit lent
 
 -- ---- the service: each call is lent as many words as it says
 
-pub trace-exists : (s : Store) (cs : List Call) → CallsFit cs → AllLent storeLent (length s) cs → Traced words Counted (start s) cs
+pub trace-exists : (home : Bool) (s : Store) (cs : List Call) → CallsFit cs → AllLent storeLent (length s) cs → Traced words Counted (start home s) cs
 trace-exists = form-trace-exists words words-lawful Counted counted-lent storeLent (λ c. refl)
 
 -- The step of a trace is the contract of the service's calls.

@@ -24,28 +24,28 @@ use Rattle.claims.specs.Existence.{AllLent, Traced, form-trace-exists}
 -- ---- a service that keeps the promise over bytes: each call is lent so many of them that they are too few exactly where its words are
 
 abbrev pub ByteWorld : Type 0
-ByteWorld = demand.World State freshState (viewIn bytes) halfOf (spare bytes) (LentIn bytes)
+ByteWorld = demand.World State (viewIn bytes) halfOf (spare bytes) (LentIn bytes)
 
-abbrev pub byteStart : Store → ByteWorld
-byteStart t = record { state = freshState; store = t }
+abbrev pub byteStart : (home : Bool) → Store → ByteWorld
+byteStart home t = record { state = freshState home; store = t }
 
 abbrev pub byteShows : ByteWorld → Model
 byteShows z = viewIn bytes (z .state) (z .store)
 
 abbrev pub ByteTrace : ByteWorld → List Call → List Got → ByteWorld → Type 0
-ByteTrace = demand.Trace State freshState (viewIn bytes) halfOf (spare bytes) (LentIn bytes)
+ByteTrace = demand.Trace State (viewIn bytes) halfOf (spare bytes) (LentIn bytes)
 
 -- Demand 3 of it
-pub demand-3-bytes : Demand State freshState (viewIn bytes) halfOf (spare bytes) (LentIn bytes)
-demand-3-bytes = demand3 State freshState (viewIn bytes) halfOf (spare bytes) (LentIn bytes) (form-shows bytes bytes-lawful (LentIn bytes) (λ c n e. e))
+pub demand-3-bytes : Demand State (viewIn bytes) halfOf (spare bytes) (LentIn bytes) freshState
+demand-3-bytes = demand3 State (viewIn bytes) halfOf (spare bytes) (LentIn bytes) freshState (form-shows bytes bytes-lawful (LentIn bytes) (λ c n e. e))
 
--- The same calls, over words and over bytes, each from a fresh start: every outcome, id, length, reply byte and command is the same, and so is what is shown.
+-- The same calls, over words and over bytes, each from a fresh start with the same setting: every outcome, id, length, reply byte and command is the same, and so is what is shown.
 pub answers-as-over-bytes :
-    (s t : Store) (cs : List Call) (gs hs : List Got) (w : World) (z : ByteWorld) → Trace (start s) cs gs w → ByteTrace (byteStart t) cs hs z
+    (home : Bool) (s t : Store) (cs : List Call) (gs hs : List Got) (w : World) (z : ByteWorld) → Trace (start home s) cs gs w → ByteTrace (byteStart home t) cs hs z
     → (gs ≡ hs) × (shows w ≡ byteShows z)
-answers-as-over-bytes s t cs gs hs w z over-words over-bytes =
-    let a = demand-3 s cs gs w over-words in
-    let b = demand-3-bytes t cs hs z over-bytes in
+answers-as-over-bytes home s t cs gs hs w z over-words over-bytes =
+    let a = demand-3 home s cs gs w over-words in
+    let b = demand-3-bytes home t cs hs z over-bytes in
     (a .answered ∙ sym (b .answered), a .model ∙ sym (b .model))
 
 -- ---- there is such a service: every list of calls that fit has a trace over every store of bytes that is long enough
@@ -72,5 +72,5 @@ all-lent : (size : ℕ) → least bytes ≤ size → (cs : List Call) → AllLen
 all-lent size long [] = tt
 all-lent size long (c ∷ cs) = (lend-within c size long, all-lent size long cs)
 
-pub byte-trace-exists : (t : Store) (cs : List Call) → CallsFit cs → least bytes ≤ length t → Traced bytes (LentIn bytes) (byteStart t) cs
-byte-trace-exists t cs fit long = form-trace-exists bytes bytes-lawful (LentIn bytes) (λ c n e. e) lend lends t cs fit (all-lent (length t) long cs)
+pub byte-trace-exists : (home : Bool) (t : Store) (cs : List Call) → CallsFit cs → least bytes ≤ length t → Traced bytes (LentIn bytes) (byteStart home t) cs
+byte-trace-exists home t cs fit long = form-trace-exists bytes bytes-lawful (LentIn bytes) (λ c n e. e) lend lends home t cs fit (all-lent (length t) long cs)

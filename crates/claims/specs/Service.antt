@@ -2,6 +2,7 @@
 use Prim.Native.Nat.{ℕ}
 use mathlib.Core.Path.{_≡_, sym, ap, _∙_}
 use mathlib.Core.List.{List}
+use mathlib.Core.Bool.{Bool}
 use lib.Dec.{ltb}
 use Rattle.rules.specs.Limits.{storeWords}
 use Rattle.rules.specs.Payload.{Bytes}
@@ -19,7 +20,7 @@ use Rattle.claims.specs.Demand3.{Got, Demand, Shows, demand3}
 
 -- a view over a form of store, each call lent so many numbers that they are too few exactly where the rules say so
 pub form-shows :
-    (F : Form) → Lawful F → (Lent : Call → ℕ → Type 0) → ((c : Call) (n : ℕ) → Lent c n → LentIn F c n) → Shows State freshState (viewIn F) halfOf (spare F) Lent
+    (F : Form) → Lawful F → (Lent : Call → ℕ → Type 0) → ((c : Call) (n : ℕ) → Lent c n → LentIn F c n) → Shows State (viewIn F) halfOf (spare F) Lent freshState
 form-shows F lawful Lent counts =
     record {
       starts = fresh-view F;
@@ -40,11 +41,11 @@ counted-lent c n e = ap (λ (i : ℕ). ltb i storeWords) e
 
 -- a state with its store
 abbrev pub World : Type 0
-World = demand.World State freshState view halfOf (spare words) Counted
+World = demand.World State view halfOf (spare words) Counted
 
--- a fresh start over a store
-abbrev pub start : Store → World
-start s = record { state = freshState; store = s }
+-- a fresh start with a setting, over a store
+abbrev pub start : (home : Bool) → Store → World
+start home s = record { state = freshState home; store = s }
 
 -- what state and store show
 abbrev pub shows : World → Model
@@ -52,15 +53,15 @@ shows w = view (w .state) (w .store)
 
 -- a list of calls of the service, with what they gave
 abbrev pub Trace : World → List Call → List Got → World → Type 0
-Trace = demand.Trace State freshState view halfOf (spare words) Counted
+Trace = demand.Trace State view halfOf (spare words) Counted
 
 -- what a call with this result gave
 abbrev pub gave : Result State → (buffer : Bytes) → Got
-gave = demand.got State freshState view halfOf (spare words) Counted
+gave = demand.got State view halfOf (spare words) Counted
 
-pub service-shows : Shows State freshState view halfOf (spare words) Counted
+pub service-shows : Shows State view halfOf (spare words) Counted freshState
 service-shows = form-shows words words-lawful Counted counted-lent
 
--- Demand 3: over every list of calls from a fresh start, with a store of any length.
-pub demand-3 : Demand State freshState view halfOf (spare words) Counted
-demand-3 = demand3 State freshState view halfOf (spare words) Counted service-shows
+-- Demand 3: over every list of calls from a fresh start, with either setting and a store of any length.
+pub demand-3 : Demand State view halfOf (spare words) Counted freshState
+demand-3 = demand3 State view halfOf (spare words) Counted freshState service-shows
