@@ -18,6 +18,7 @@ pub mod Replies
 pub mod Refused
 pub mod StayValid
 pub mod Valid
+pub mod OtherKinds
 pub mod Wholes
 pub mod ReadBack
 pub mod Words
