@@ -1,5 +1,5 @@
--- Laws of the rules' definitions, proved here once for the crates above; reading back, also of words; that stored plans stay valid; and what a reading as a whole number
--- means. Who reads the rules can pass the laws over.
+-- Laws of the rules' definitions, proved here once for the crates above; reading back, also of words; that stored plans stay valid; what a reading as a whole number
+-- means; and that home is asked of flight plans alone. Who reads the rules can pass the laws over.
 pub mod Tests
 pub mod Lists
 pub mod Numbers
