@@ -22,7 +22,7 @@ use Rattle.plan.specs.View.{viewIn, freshState, fresh-view}
 use Rattle.refine.specs.Promise.{Result, halfOf, LentIn, spare}
 use Rattle.refine.specs.Serving.{Kept, result-exists}
 use Rattle.refine.specs.Front.{view-front}
-use Rattle.service.specs.Calls.{Serves}
+use Rattle.own_calls.specs.Calls.{Serves}
 use Rattle.claims.specs.Demand3 as demand
 use Rattle.claims.specs.Demand3.{Got, Trace, stop, call, one, got}
 use Rattle.claims.specs.Service as service

@@ -4,7 +4,8 @@ use lib.ListN.{length}
 use Rattle.rules.specs.Limits.{kinds}
 use Rattle.rules.specs.Messages.{station}
 use borrow.Author.Needs.{needs}
-use Rattle.service.proofs.Ways.{length-mapped, MessageTaken, message-refused, message-taken, plan-at, message-nothing, message-turns, message-renews, message-restarts, message-changes, message-recounts, message-empties, message-chooses}
+use Rattle.own_calls.proofs.Ways.{length-mapped}
+use Rattle.service.proofs.Ways.{MessageTaken, message-refused, message-taken, plan-at, message-nothing, message-turns, message-renews, message-restarts, message-changes, message-recounts, message-empties, message-chooses}
 use Rattle.service.proofs.message.Statement.{statement}
 use Rattle.service.proofs.message.Tie as tie
 

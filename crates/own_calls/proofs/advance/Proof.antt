@@ -1,9 +1,9 @@
 -- A refused call by the refusal's number, and Stuck; any other by the next command, and the item at which it stands.
 -- A refused call by the refusal's number, and Stuck; any other by the next command, and the item at which it stands.
 use borrow.Author.Needs.{needs}
-use Rattle.service.proofs.Ways.{length-mapped, DoneTaken, done-refused, done-taken, done-stands, done-stays}
-use Rattle.service.proofs.advance.Statement.{statement}
-use Rattle.service.proofs.advance.Tie as tie
+use Rattle.own_calls.proofs.Ways.{length-mapped, DoneTaken, done-refused, done-taken, done-stands, done-stays}
+use Rattle.own_calls.proofs.advance.Statement.{statement}
+use Rattle.own_calls.proofs.advance.Tie as tie
 
 element-copy-out-flight : tie.Need-element-copy-out-flight
 element-copy-out-flight c = search needs

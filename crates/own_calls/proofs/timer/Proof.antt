@@ -1,9 +1,9 @@
 -- A refused call by the refusal's number; any other by the timer's turn, put into the state.
 -- A refused call by the refusal's number; any other by the timer's turn, put into the state.
 use borrow.Author.Needs.{needs}
-use Rattle.service.proofs.Ways.{length-mapped, TimerTaken, timer-refused, timer-taken, timer-turns, timer-nothing}
-use Rattle.service.proofs.timer.Statement.{statement}
-use Rattle.service.proofs.timer.Tie as tie
+use Rattle.own_calls.proofs.Ways.{length-mapped, TimerTaken, timer-refused, timer-taken, timer-turns, timer-nothing}
+use Rattle.own_calls.proofs.timer.Statement.{statement}
+use Rattle.own_calls.proofs.timer.Tie as tie
 
 element-copy-out-flight : tie.Need-element-copy-out-flight
 element-copy-out-flight c = search needs

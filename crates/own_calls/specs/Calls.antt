@@ -18,8 +18,8 @@ use Rattle.refine.specs.Promise.{Result, halfOf, spare}
 use Rattle.refine.specs.After.{gives}
 use Rattle.refine.specs.Steps.{refused-steps}
 use Rattle.refine.specs.Serving.{steps-serve}
-use Rattle.service.specs.declared.Served.{Served}
-use Rattle.service.specs.declared.Advanced.{Advanced}
+use Rattle.own_calls.specs.declared.Served.{Served}
+use Rattle.own_calls.specs.declared.Advanced.{Advanced}
 
 -- Call c on state st, store s and reply buffer b gives the result r, store s′ and buffer b′, as the rules settle it.
 abbrev pub Serves : Call → State → (s s′ : Store) (b b′ : Bytes) → Result State → Type 0

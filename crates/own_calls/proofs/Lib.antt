@@ -1,0 +1,2 @@
+-- The ways of the calls.
+pub mod Ways
