@@ -16,7 +16,7 @@ use Rattle.rules.specs.Payload.{Bytes}
 use Rattle.rules.specs.Model as model
 use Rattle.rules.specs.Model.{inRange, elapsed, flown}
 use Rattle.rules.specs.NextCommand as rules
-use Rattle.rules.specs.Calls.{Call, message, timer, done, expiry, commandDone, heard}
+use Rattle.rules.specs.Calls.{Call, timer, done, expiry, commandDone, heard}
 use Rattle.rules.specs.Step.{orders, commandIn, onTimer}
 use Rattle.rule_laws.specs.Tests.{either}
 use Rattle.rule_laws.specs.Refused.{plain-stuck, timer-plain}

@@ -14,8 +14,8 @@ use lib.ListN.{replicate}
 use lib.Ieee.{ofBits}
 use Rattle.rules.specs.Limits.{storeWords, replyBytesMin, flight, fence}
 use Rattle.rules.specs.Payload.{Bytes, numberAt, bytesOf, significant, trim}
-use Rattle.rules.specs.Layouts.{setCurrentId, requestListId, countId, clearAllId, ackId, requestIntId, itemIntId, layoutOf, values, pack}
-use Rattle.rules.specs.Messages.{Station, station, Item, Message, setCurrent, requestList, count, clearAll, ack, requestInt, itemInt, encode, messageOf, decode, itemOf, itemIn}
+use Rattle.rules.specs.Layouts.{partialListId, setCurrentId, requestListId, countId, clearAllId, ackId, requestIntId, itemIntId, layoutOf, values, pack}
+use Rattle.rules.specs.Messages.{Station, station, Item, Message, partialList, setCurrent, requestList, count, clearAll, ack, requestInt, itemInt, encode, messageOf, decode, itemOf, itemIn}
 use Rattle.rules.specs.Model.{Model, Shown, Plan, Upload, idle, fresh, nextNumber, shownNumber, elapsed, verdictOn, whole, wholeFault, isOthers, isOwn, withPlan, put, emptied, empty, flown, choose, taskInRange, uploadInRange, inRange}
 use Rattle.rules.specs.NextCommand.{Command, commandOf, orOne, passedOver, runsAfter, meets, settle, search, next, reach, advance}
 use Rattle.rules.specs.Calls.{Call, message, timer, done, forUs, heardMessage, heard}
@@ -90,6 +90,9 @@ sends from clock id payload = handed payload (λ (p : Bytes). message vehicle fr
 
 abbrev pub sendsCount : (from : Station) (clock kind n : ℕ) → Call
 sendsCount from clock kind n = sends from clock countId (encode (count vehicle n kind 0))
+
+abbrev pub sendsPart : (from : Station) (clock kind start end : ℕ) → Call
+sendsPart from clock kind start end = sends from clock partialListId (encode (partialList vehicle start end kind))
 
 abbrev pub sendsItem : (from : Station) (clock : ℕ) → Item → Call
 sendsItem from clock item = sends from clock itemIntId (encode (itemInt vehicle 0 item))

@@ -32,7 +32,6 @@ use Rattle.upload.specs.declared.Effect.{Effect}
 use Rattle.upload.specs.declared.Effect.the-variants.{Nothing, Turns, Renews, Changes, EmptiesAll, Chooses}
 use Rattle.answers.specs.declared.Handled.{Handled}
 use Rattle.protocol.specs.Doing.{DoneBy, IsPlanOf, messageDone}
-use Rattle.refine.specs.After.{after}
 use Rattle.refine.specs.Steps.{EffectOk, message-effect, message-steps}
 use Rattle.refine.specs.Messages.{message-agrees}
 use Rattle.own_calls.specs.Calls.{Serves, servedResult, refused-serves}

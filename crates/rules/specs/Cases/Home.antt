@@ -2,17 +2,15 @@
 -- statement: every case holds. All other tables are without the setting.
 use Prim.Native.Nat.{ℕ}
 use mathlib.Core.Path.{refl}
-use mathlib.Core.List.{List, [], _∷_, _++_, map}
+use mathlib.Core.List.{List, [], _∷_, _++_}
 use mathlib.Core.Bool.{Bool, true, false}
 use lib.ListN.{replicate}
 use Rattle.rules.specs.Limits.{flight, fence, rally}
-use Rattle.rules.specs.Layouts.{partialListId}
-use Rattle.rules.specs.Messages.{Item, partialList, current, count, ack, requestInt, itemInt, encode}
-use Rattle.rules.specs.Model.{Model, Shown, idle, fresh}
+use Rattle.rules.specs.Messages.{Item, current, ack, requestInt, itemInt}
+use Rattle.rules.specs.Model.{Model, fresh}
 use Rattle.rules.specs.NextCommand.{fly, finished, stuck}
-use Rattle.rules.specs.Calls.{Call}
 use Rattle.rules.specs.Step.{Answer, says, refusalText, run}
-use Rattle.rules.specs.Cases.{computing, Case, answer, commands, shown, model, _is_, Hold, vehicle, tablet, sends, sendsCount, sendsItem, sendsClear, asksForItem, setsCurrent, finishes, after, ordered, uploads, verdict, f1, f2, f3, fNaN, fMinusZero, fMinusOne, itemAs, itemWith, waypoint, takeoff, land, jumpTo, circle, planWith, resting}
+use Rattle.rules.specs.Cases.{computing, Case, answer, commands, shown, model, _is_, Hold, tablet, sendsCount, sendsPart, sendsItem, sendsClear, asksForItem, setsCurrent, finishes, after, ordered, uploads, verdict, f1, f2, f3, fNaN, fMinusZero, fMinusOne, itemAs, itemWith, waypoint, takeoff, land, jumpTo, circle, planWith, resting}
 use Rattle.rules.specs.Cases.Bounds.{bounds-hold}
 
 -- ---- what the cases start from
@@ -36,7 +34,7 @@ taken home kind n items item = after (fresh home) (uploads kind n items) (sendsI
 
 -- the answer to an item that is the whole of a part of the flight plan
 abbrev changed : (n : ℕ) → Item → Answer
-changed n item = after (homed three) (sends tablet 0 partialListId (encode (partialList vehicle n n flight)) ∷ []) (sendsItem tablet 0 item)
+changed n item = after (homed three) (sendsPart tablet 0 flight n n ∷ []) (sendsItem tablet 0 item)
 
 abbrev asked : (seq : ℕ) → Answer
 asked seq = says (requestInt tablet seq 0)
@@ -44,7 +42,7 @@ asked seq = says (requestInt tablet seq 0)
 abbrev refusedByText : Answer
 refusedByText = says refusalText
 
--- two "command done" calls, the first from item 0, where a host left fifteen jumps behind these items
+-- item 0, an item to fly, fifteen jumps that are passed over, and one more item; where item 0 is a jump, the last of them is the plan's sixteenth
 abbrev jumps : (first : Item) → List Item
 jumps first = first ∷ takeoff 1 ∷ replicate 14 (jumpTo 2 f1 0) ++ (jumpTo 16 f1 0 ∷ land 17 ∷ [])
 
@@ -128,7 +126,7 @@ homes =
     ∷ (commands (ordered (run (homedAt true three 2 true) (uploads flight 2 (waypoint 0 ∷ takeoff 1 ∷ []))) (finishes ∷ [])) is commands (fly 1 ∷ []))
     -- nothing changes the setting: a replacement, a part, a choice, a "command done" call, a clear of flight and of every kind, a count of 0
     ∷ (answer (after (homed three) (uploads flight 1 (waypoint 0 ∷ []) ++ (sendsCount tablet 0 flight 1 ∷ [])) (sendsItem tablet 0 (takeoff 0))) is answer (verdict 3 0))
-    ∷ (model (run (homed three) (sends tablet 0 partialListId (encode (partialList vehicle 1 1 flight)) ∷ sendsItem tablet 0 (takeoff 1) ∷ []))
+    ∷ (model (run (homed three) (sendsPart tablet 0 flight 1 1 ∷ sendsItem tablet 0 (takeoff 1) ∷ []))
     is model
     (resting (record { plans = planWith three 4 ∷ planWith [] 0 ∷ planWith [] 0 ∷ []; current = 0; begun = false; counts = replicate 15 0; home = true })))
     ∷ (model (run (homed three) (setsCurrent tablet 2 ∷ finishes ∷ [])) is model (homedAt true three 2 true))

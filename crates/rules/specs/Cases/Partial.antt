@@ -5,12 +5,11 @@ use mathlib.Core.List.{List, [], _∷_, _++_, map}
 use mathlib.Core.Bool.{Bool, true, false}
 use lib.ListN.{replicate}
 use Rattle.rules.specs.Limits.{flight, fence, rally}
-use Rattle.rules.specs.Layouts.{partialListId}
-use Rattle.rules.specs.Messages.{Station, Item, partialList, count, ack, requestInt, itemInt, encode, decode, itemOf}
+use Rattle.rules.specs.Messages.{Item, partialList, count, ack, requestInt, itemInt, encode, decode, itemOf}
 use Rattle.rules.specs.Model.{Model, idle, running, uploadOf}
 use Rattle.rules.specs.Calls.{Call, message}
 use Rattle.rules.specs.Step.{Answer, refused, says, run, answers}
-use Rattle.rules.specs.Cases.{computing, Case, bytes, answer, replies, shown, upload, model, reads, _is_, Hold, vehicle, tablet, neighbour, sends, sendsCount, sendsItem, sendsAck, sendsClear, asksForList, asksForItem, ticks, after, f1, f3, f4, fMinusOne, itemAs, waypoint, land, jumpTo, vertex, circle, planWith, resting, verdict}
+use Rattle.rules.specs.Cases.{computing, Case, bytes, answer, replies, shown, upload, model, reads, _is_, Hold, vehicle, tablet, neighbour, sends, sendsCount, sendsPart, sendsItem, sendsAck, sendsClear, asksForList, asksForItem, ticks, after, f1, f3, f4, fMinusOne, itemAs, waypoint, land, jumpTo, vertex, circle, planWith, resting, verdict}
 use Rattle.rules.specs.Cases.Bounds.{bounds-hold}
 
 -- ---- what the cases start from
@@ -29,9 +28,6 @@ flying = stored (waypoint 0 ∷ waypoint 1 ∷ waypoint 2 ∷ []) triangle
 -- fifteen jumps between two waypoints
 abbrev looping : Model
 looping = stored (waypoint 0 ∷ map (λ (n : ℕ). jumpTo n 0 0) (1 ∷ 2 ∷ 3 ∷ 4 ∷ 5 ∷ 6 ∷ 7 ∷ 8 ∷ 9 ∷ 10 ∷ 11 ∷ 12 ∷ 13 ∷ 14 ∷ 15 ∷ []) ++ (waypoint 16 ∷ [])) []
-
-abbrev sendsPart : (from : Station) (clock kind start end : ℕ) → Call
-sendsPart from clock kind start end = sends from clock partialListId (encode (partialList vehicle start end kind))
 
 -- the tablet announces a part of a kind and sends these
 abbrev parts : (kind start end : ℕ) → List Item → List Call
