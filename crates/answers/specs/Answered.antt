@@ -6,22 +6,14 @@ use native.Mathlib.Omega.{arith}
 use lib.ListN.{length, take, drop}
 use Rattle.rules.specs.Limits.{replied, noReply, replyBytesMin}
 use Rattle.rules.specs.Payload.{Bytes}
-use Rattle.rules.specs.Messages.{Station, Message, ack, requestInt, idOf, encode}
+use Rattle.rules.specs.Messages.{Message, idOf, encode}
 use Rattle.rule_laws.specs.Layout.{encode-fits}
 use Rattle.rules.specs.Step.{Answer, silent, says, outcomeOf, replyId, replyBytes, ReadsBack}
 use Rattle.upload.specs.declared.Effect.{Effect}
-use Rattle.upload.specs.declared.Say.{Say}
-use Rattle.upload.specs.declared.Say.the-variants.{Silent, Ack, Ask}
 use Rattle.trimming.specs.Written.{Trimmed}
 use Rattle.reply.specs.Written.{Wrote}
 use Rattle.answers.specs.declared.Said.{Said}
 use Rattle.answers.specs.declared.Handled.{Handled}
-
--- what is said, as the rules' answer
-abbrev pub answerOf : Say → Station → (kind : ℕ) → Answer
-answerOf Silent to kind = silent
-answerOf (Ack result number) to kind = says (ack to result kind number)
-answerOf (Ask seq) to kind = says (requestInt to seq kind)
 
 -- the buffer held b and then holds b′: "Outcome 0 also returns the reply's id and length; every other returns 0 for both"; "buffer past
 -- the reply unchanged"; and the reply reads back as what is said

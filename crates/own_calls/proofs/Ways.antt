@@ -39,7 +39,8 @@ use Rattle.upload.specs.declared.Effect.the-variants.{Nothing, Turns, Renews, C
 use Rattle.upload.proofs.Effect.{the-type}
 use Rattle.answers.specs.declared.Handled.{Handled}
 use Rattle.answers.specs.Answered.{Handles}
-use Rattle.protocol.specs.Doing.{Done, DoneBy, timerDone}
+use Rattle.protocol.specs.Handlers.{DoneBy}
+use Rattle.record_steps.specs.Doing.{Done, timerDone}
 use Rattle.next_command.specs.declared.find.Found.{Found}
 use Rattle.next_command.specs.Finding.{foundOf}
 use Rattle.next_command.specs.OrderedBy.{OrderedBy, reachedState, reaches}

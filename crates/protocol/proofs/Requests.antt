@@ -16,7 +16,7 @@ use Rattle.message_table.specs.Table.{isRead}
 use Rattle.places.specs.Forms.{Store, words}
 use Rattle.plan.specs.declared.Plan.{Plan}
 use Rattle.refusal.specs.Refusals.{requestOf}
-use Rattle.protocol.specs.Doing.{planAmong, planDone, knownDone}
+use Rattle.record_steps.specs.Doing.{planAmong, planDone, knownDone}
 
 -- every message but CLEAR_ALL and ACK may have the kinds up to the last
 pub kind-known : (id kind : ℕ) (p : Bytes) → (id ≡ clearAllId → ⊥) → (id ≡ ackId → ⊥) → isKnown kind ≡ kindOk kind (requestOf (decode id p))

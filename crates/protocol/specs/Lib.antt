@@ -1,2 +1,2 @@
--- What every message and timer call does, mirroring the code; crate `refine` shows that it is the rules' step.
-pub mod Doing
+-- What the contracts of answering a message cite.
+pub mod Handlers

@@ -9,7 +9,7 @@ use Rattle.plan.specs.View.{planOf}
 use Rattle.upload.specs.declared.Turned.{Turned}
 use Rattle.upload.specs.Turns.{TurnAndStore}
 use Rattle.upload.specs.Effects.{applied}
-use Rattle.protocol.specs.Doing.{Done, turns, itemTurns, messageDone, timerDone}
+use Rattle.record_steps.specs.Doing.{Done, turns, itemTurns, messageDone, timerDone}
 
 pub record After : Type 0 where
   pub state : State

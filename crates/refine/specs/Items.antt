@@ -38,7 +38,7 @@ use Rattle.upload.specs.declared.Effect.the-variants.{Renews, Changes}
 use Rattle.upload.specs.declared.Turned.{Turned}
 use Rattle.upload.specs.Turns.{withUpload, replaced, oneMore, moves, putsIn, TurnAndStore, turnWith, settled, lastTurned, validItemTurned, itemVerdict, itemTurned}
 use Rattle.upload.specs.Effects.{renewedState, applied}
-use Rattle.answers.specs.Answered.{answerOf}
+use Rattle.record_steps.specs.Answers.{answerOf}
 use Rattle.refine.specs.After.{afterTurn, afterItem}
 use Rattle.refine.specs.Views.{plan-shown, upload-shown, length-shown, view-upload, view-renewed}
 use Rattle.refine.specs.Turned.{Agree, kept, ends}

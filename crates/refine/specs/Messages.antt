@@ -25,8 +25,8 @@ use Rattle.upload.specs.declared.Say.the-variants.{Silent}
 use Rattle.upload.specs.declared.Effect.the-variants.{Nothing, Renews, EmptiesAll, Chooses}
 use Rattle.upload.specs.Turns.{emptied, othersUpload, ackTurned, ownUpload, keeps}
 use Rattle.upload.specs.Effects.{renewedState, emptiedState, chosenState, applied}
-use Rattle.shown.specs.Shown.{listAnswer, requestAnswer, chooseEffect, chooseAnswer}
-use Rattle.protocol.specs.Doing.{Done, does, othersAmong, clearEffect, clearDone, planDone, knownDone, messageDone}
+use Rattle.record_steps.specs.Shown.{listAnswer, requestAnswer, chooseEffect, chooseAnswer}
+use Rattle.record_steps.specs.Doing.{Done, does, othersAmong, clearEffect, clearDone, planDone, knownDone, messageDone}
 use Rattle.refine.specs.After.{after, afterTurn, afterMessage}
 use Rattle.refine.specs.Views.{plan-shown, upload-shown, length-shown}
 use Rattle.refine.specs.Turned.{Agree, others-shown, empties, count-agrees, part-agrees, ack-agrees}

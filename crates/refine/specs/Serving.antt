@@ -24,7 +24,7 @@ use Rattle.upload.specs.declared.Effect.{Effect}
 use Rattle.upload.specs.declared.Effect.the-variants.{Nothing, Turns, Renews, Changes, EmptiesAll, Chooses}
 use Rattle.upload.specs.Turns.{emptied}
 use Rattle.upload.specs.Effects.{renewedState, emptiedState, applied}
-use Rattle.protocol.specs.Doing.{messageDone, timerDone}
+use Rattle.record_steps.specs.Doing.{messageDone, timerDone}
 use Rattle.refine.specs.After.{After, gives, afterMessage, afterTimer}
 use Rattle.refine.specs.Promise.{Result, Serves, halfOf, LentIn, spare}
 use Rattle.refine.specs.Steps.{Steps, refused-steps, message-steps, timer-steps, done-steps}

@@ -34,8 +34,8 @@ use Rattle.upload.specs.declared.Effect.the-variants.{Nothing, Turns, Renews, C
 use Rattle.upload.specs.declared.Turned.{Turned}
 use Rattle.upload.specs.Turns.{withUpload, ended, emptied, replaced, started, oneMore, askedAgain, othersUpload, ownUpload, countTurned, partTurned, ackTurned, timerTurned, TurnAndStore, settled, lastTurned, validItemTurned, itemVerdict, itemTurned, stored}
 use Rattle.upload.specs.Effects.{turnedState, renewedState, emptiedState, applied}
-use Rattle.shown.specs.Shown.{chooseEffect}
-use Rattle.protocol.specs.Doing.{Done, othersAmong, clearEffect, clearDone, planDone, knownDone, messageDone, timerDone}
+use Rattle.record_steps.specs.Shown.{chooseEffect}
+use Rattle.record_steps.specs.Doing.{Done, othersAmong, clearEffect, clearDone, planDone, knownDone, messageDone, timerDone}
 use Rattle.refine.specs.After.{After, gives, afterMessage, afterTimer}
 use Rattle.refine.specs.Views.{plan-shown}
 use Rattle.refine.specs.Turned.{Agree, timer-agrees}

@@ -27,8 +27,8 @@ use Rattle.upload.specs.declared.Say.the-variants.{Silent, Ack, Ask}
 use Rattle.upload.specs.declared.Turned.{Turned}
 use Rattle.upload.specs.Turns as turns
 use Rattle.upload.specs.Turns.{stationOf, withUpload, ended, emptied, started, askedAgain, othersUpload, ownUpload, keeps, moves, renews, countTurned, partTurned, ackTurned, timerTurned}
-use Rattle.answers.specs.Answered.{answerOf}
-use Rattle.protocol.specs.Doing.{timerDone}
+use Rattle.record_steps.specs.Answers.{answerOf}
+use Rattle.record_steps.specs.Doing.{timerDone}
 use Rattle.refine.specs.After.{After, afterTurn, afterTimer}
 use Rattle.refine.specs.Views.{plan-shown, upload-shown, length-shown, view-upload, view-renewed}
 

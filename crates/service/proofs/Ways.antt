@@ -31,7 +31,8 @@ use Rattle.upload.specs.Effects.{turnedState, renewedState, emptiedState, chose
 use Rattle.upload.specs.declared.Effect.{Effect}
 use Rattle.upload.specs.declared.Effect.the-variants.{Nothing, Turns, Renews, Changes, EmptiesAll, Chooses}
 use Rattle.answers.specs.declared.Handled.{Handled}
-use Rattle.protocol.specs.Doing.{DoneBy, IsPlanOf, messageDone}
+use Rattle.protocol.specs.Handlers.{DoneBy}
+use Rattle.record_steps.specs.Doing.{IsPlanOf, messageDone}
 use Rattle.refine.specs.Steps.{EffectOk, message-effect, message-steps}
 use Rattle.refine.specs.Messages.{message-agrees}
 use Rattle.own_calls.specs.Calls.{Serves, servedResult, refused-serves}

@@ -6,7 +6,7 @@ ghost use Rattle.rules.specs.Limits.{rally, sizeOf, storeWords, replyBytesMin};
 ghost use Rattle.rules.specs.Messages.{station};
 ghost use Rattle.rules.specs.Step.{currentField};
 ghost use Rattle.answers.specs.Answered.{Spoken, Handles};
-ghost use Rattle.shown.specs.Shown.{listAnswer, requestAnswer, chooseEffect, chooseAnswer};
+ghost use Rattle.record_steps.specs.Shown.{listAnswer, requestAnswer, chooseEffect, chooseAnswer};
 ghost use Rattle.places.specs.Forms.{words};
 use answers::Handled;
 use answers::REPLIED;

@@ -12,7 +12,8 @@ use Rattle.reply.specs.Written.{Wrote}
 use Rattle.upload.specs.declared.Say.{Say}
 use Rattle.upload.specs.declared.Say.the-variants.{Silent, Ack, Ask}
 use Rattle.answers.specs.declared.Said.{Said}
-use Rattle.answers.specs.Answered.{answerOf, Spoken, said, spoken-silent, written-spoken}
+use Rattle.record_steps.specs.Answers.{answerOf}
+use Rattle.answers.specs.Answered.{Spoken, said, spoken-silent, written-spoken}
 use Rattle.answers.proofs.speak.Statement.{statement}
 use Rattle.answers.proofs.speak.Tie as tie
 

@@ -19,7 +19,8 @@ use Rattle.upload.specs.Turns.{ended, keeps, moves, ownUpload, ackTurned}
 use Rattle.answers.specs.declared.Said.{Said}
 use Rattle.answers.specs.declared.Handled.{Handled}
 use Rattle.answers.specs.Answered.{said, spoken-silent}
-use Rattle.protocol.specs.Doing.{DoneBy, IsPlanOf, planAmong, planDone, knownDone}
+use Rattle.protocol.specs.Handlers.{DoneBy}
+use Rattle.record_steps.specs.Doing.{IsPlanOf, planAmong, planDone, knownDone}
 use borrow.Author.Needs.{needs}
 use Rattle.protocol.proofs.acknowledge.Statement.{statement}
 use Rattle.protocol.proofs.acknowledge.Tie as tie

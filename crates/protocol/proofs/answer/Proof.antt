@@ -24,8 +24,9 @@ use Rattle.upload.specs.declared.Effect.the-variants.{Nothing}
 use Rattle.answers.specs.declared.Said.{Said}
 use Rattle.answers.specs.declared.Handled.{Handled}
 use Rattle.answers.specs.Answered.{Spoken, Handles}
-use Rattle.shown.specs.Shown.{chooseEffect, chooseAnswer}
-use Rattle.protocol.specs.Doing.{DoneBy, IsPlanOf, planAmong, clearDone, planDone, knownDone, messageDone}
+use Rattle.record_steps.specs.Shown.{chooseEffect, chooseAnswer}
+use Rattle.protocol.specs.Handlers.{DoneBy}
+use Rattle.record_steps.specs.Doing.{IsPlanOf, planAmong, clearDone, planDone, knownDone, messageDone}
 use Rattle.protocol.proofs.Requests.{kind-known, of-one-plan}
 use borrow.Author.Needs.{needs}
 use Rattle.protocol.proofs.answer.Statement.{statement}

@@ -9,8 +9,9 @@ use Rattle.upload.specs.declared.Turned.{Turned}
 use Rattle.upload.specs.declared.uploads.Station.{Station}
 use Rattle.upload.specs.Turns.{timerTurned, stationOf}
 use Rattle.answers.specs.declared.Handled.{Handled}
-use Rattle.answers.specs.Answered.{answerOf, Handles}
-use Rattle.protocol.specs.Doing.{timerDone}
+use Rattle.record_steps.specs.Answers.{answerOf}
+use Rattle.answers.specs.Answered.{Handles}
+use Rattle.record_steps.specs.Doing.{timerDone}
 use borrow.Author.Needs.{needs}
 use Rattle.protocol.proofs.expire.Statement.{statement}
 use Rattle.protocol.proofs.expire.Tie as tie

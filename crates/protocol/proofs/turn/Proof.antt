@@ -22,9 +22,11 @@ use Rattle.upload.specs.declared.Turned.{Turned}
 use Rattle.upload.specs.Turns.{TurnAndStore, turnWith, countTurned, partTurned, itemTurned}
 use Rattle.answers.specs.declared.Said.{Said}
 use Rattle.answers.specs.declared.Handled.{Handled}
-use Rattle.answers.specs.Answered.{answerOf, Spoken, Handles}
-use Rattle.shown.specs.Shown.{listAnswer, requestAnswer}
-use Rattle.protocol.specs.Doing.{DoneBy, planDone}
+use Rattle.record_steps.specs.Answers.{answerOf}
+use Rattle.answers.specs.Answered.{Spoken, Handles}
+use Rattle.record_steps.specs.Shown.{listAnswer, requestAnswer}
+use Rattle.protocol.specs.Handlers.{DoneBy}
+use Rattle.record_steps.specs.Doing.{planDone}
 use Rattle.protocol.proofs.Requests.{item-left}
 use borrow.Author.Needs.{needs}
 use Rattle.protocol.proofs.turn.Statement.{statement}

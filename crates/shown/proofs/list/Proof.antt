@@ -9,7 +9,7 @@ use Rattle.rules.specs.Layouts.{countId}
 use Rattle.plan.specs.declared.Plan.{Plan}
 use Rattle.reply.specs.Written.{Wrote}
 use Rattle.answers.specs.Answered.{Spoken, said, written-spoken}
-use Rattle.shown.specs.Shown.{numberOf, listAnswer}
+use Rattle.record_steps.specs.Shown.{numberOf, listAnswer}
 use borrow.Author.Needs.{needs}
 use Rattle.shown.proofs.list.Statement.{statement}
 use Rattle.shown.proofs.list.Tie as tie

@@ -15,7 +15,7 @@ use Rattle.places.specs.Forms.{Store, words, itemAt}
 use Rattle.reply.specs.Written.{Wrote}
 use Rattle.answers.specs.declared.Said.{Said}
 use Rattle.answers.specs.Answered.{Spoken, said, written-spoken}
-use Rattle.shown.specs.Shown.{requestAnswer}
+use Rattle.record_steps.specs.Shown.{requestAnswer}
 use borrow.Author.Needs.{needs}
 use Rattle.shown.proofs.request.Statement.{statement}
 use Rattle.shown.proofs.request.Tie as tie

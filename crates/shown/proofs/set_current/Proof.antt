@@ -15,7 +15,7 @@ use Rattle.reply.specs.Written.{Wrote}
 use Rattle.upload.specs.declared.Effect.the-variants.{Nothing, Chooses}
 use Rattle.answers.specs.declared.Handled.{Handled}
 use Rattle.answers.specs.Answered.{Handles, said, written-spoken}
-use Rattle.shown.specs.Shown.{numberOf, chooseEffect, chooseAnswer}
+use Rattle.record_steps.specs.Shown.{numberOf, chooseEffect, chooseAnswer}
 use borrow.Author.Needs.{needs}
 use Rattle.shown.proofs.set_current.Statement.{statement}
 use Rattle.shown.proofs.set_current.Tie as tie

@@ -16,7 +16,8 @@ use Rattle.upload.specs.declared.Effect.the-variants.{Nothing}
 use Rattle.answers.specs.declared.Said.{Said}
 use Rattle.answers.specs.declared.Handled.{Handled}
 use Rattle.answers.specs.Answered.{Spoken}
-use Rattle.protocol.specs.Doing.{DoneBy, IsPlanOf, othersAmong, clearEffect, clearDone}
+use Rattle.protocol.specs.Handlers.{DoneBy}
+use Rattle.record_steps.specs.Doing.{IsPlanOf, othersAmong, clearEffect, clearDone}
 use borrow.Author.Needs.{needs}
 use Rattle.protocol.proofs.clears.clear.Statement.{statement}
 use Rattle.protocol.proofs.clears.clear.Tie as tie

@@ -10,7 +10,7 @@ use Rattle.rules.specs.Calls.{isKnown}
 use Rattle.plan.specs.declared.Plan.{Plan}
 use Rattle.upload.specs.declared.Effect.the-variants.{Renews, EmptiesAll}
 use Rattle.upload.specs.Turns.{emptied}
-use Rattle.protocol.specs.Doing.{IsPlanOf, clearEffect}
+use Rattle.record_steps.specs.Doing.{IsPlanOf, clearEffect}
 use Rattle.protocol.proofs.Covering.{one}
 use borrow.Author.Needs.{needs}
 use Rattle.protocol.proofs.clears.empties.Statement.{statement}

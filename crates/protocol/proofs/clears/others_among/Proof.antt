@@ -11,7 +11,7 @@ use Rattle.rules.specs.Calls.{isKnown}
 use Rattle.rules.specs.Step.{covered}
 use Rattle.plan.specs.declared.Plan.{Plan}
 use Rattle.upload.specs.Turns.{othersUpload}
-use Rattle.protocol.specs.Doing.{IsPlanOf, othersAmong}
+use Rattle.record_steps.specs.Doing.{IsPlanOf, othersAmong}
 use Rattle.protocol.proofs.Covering.{one}
 use borrow.Author.Needs.{needs}
 use Rattle.protocol.proofs.clears.others_among.Statement.{statement}

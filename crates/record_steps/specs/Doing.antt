@@ -7,7 +7,6 @@ use mathlib.Core.Bool.{Bool, false, cond, _||_}
 use lib.ListN.{getD}
 use lib.Dec.{eqb}
 use Rattle.rules.specs.Limits.{flight, fence, rally, everyKind, sizeOf, accepted, unsupported, denied}
-use Rattle.rules.specs.Payload.{Bytes}
 use Rattle.rules.specs.Messages.{Station, ack}
 use Rattle.rules.specs.Model.{flown}
 use Rattle.rules.specs.Calls.{Request, chooses, asksList, announces, changes, clears, acknowledges, asksItem, brings}
@@ -19,9 +18,8 @@ use Rattle.upload.specs.declared.Effect.{Effect}
 use Rattle.upload.specs.declared.Effect.the-variants.{Nothing, Renews, EmptiesAll}
 use Rattle.upload.specs.declared.Turned.{Turned}
 use Rattle.upload.specs.Turns.{TurnAndStore, emptied, countTurned, partTurned, ackTurned, timerTurned, itemTurned, othersUpload, stationOf}
-use Rattle.answers.specs.declared.Handled.{Handled}
-use Rattle.answers.specs.Answered.{answerOf, Handles}
-use Rattle.shown.specs.Shown.{listAnswer, requestAnswer, chooseEffect, chooseAnswer}
+use Rattle.record_steps.specs.Answers.{answerOf}
+use Rattle.record_steps.specs.Shown.{listAnswer, requestAnswer, chooseEffect, chooseAnswer}
 
 pub record Done : Type 0 where
   pub effect : Effect
@@ -30,11 +28,6 @@ pub record Done : Type 0 where
 
 abbrev pub does : Effect → Store → Answer → Done
 does e s a = record { effect = e; store = s; answer = a }
-
--- the call's handler did and said that, and left the store so
-pub record DoneBy (d : Done) (s′ : Store) (b b′ : Bytes) (r : Handled) : Type 0 where
-  pub handles : Handles (d .effect) (d .answer) b b′ r
-  pub store : s′ ≡ d .store
 
 -- a turn of one plan, answered to a station
 abbrev pub turns : Store → (kind : ℕ) → Station → Turned → Done
