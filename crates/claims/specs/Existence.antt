@@ -13,7 +13,7 @@ use Rattle.rule_laws.specs.Fitted.{fresh_fits, step_fits}
 use Rattle.call_lists.specs.Laws.Ranged.{Formed, fresh_formed}
 use Rattle.call_lists.specs.Laws.Kept.{step_kept}
 use Rattle.places.specs.Forms.{Store, Form, words, least}
-use Rattle.places.specs.Places.{Ample, words_ample}
+use Rattle.places.specs.Places.{Lawful, words_lawful}
 use Rattle.plan.specs.declared.State.{State}
 use Rattle.plan.specs.View.{view_in, fresh_state, fresh_view}
 use Rattle.refine.specs.Promise.{Result, half_of, LentIn, spare}
@@ -46,7 +46,7 @@ module _ (F : Form) (Lent : Call → ℕ → Type 0) where
     formed : Formed (view_in F w.state w.store)
     fits : ModelFits (view_in F w.state w.store)
 
-module _ (F : Form) (ample : Ample F) (Lent : Call → ℕ → Type 0) (counts : (c : Call) (n : ℕ) → Lent c n → LentIn F c n)
+module _ (F : Form) (lawful : Lawful F) (Lent : Call → ℕ → Type 0) (counts : (c : Call) (n : ℕ) → Lent c n → LentIn F c n)
     (lend : Call → ℕ) (lends : (c : Call) → Lent c (lend c)) where
   traced : (w : WorldIn F Lent) (cs : List Call) → Ready F Lent w → CallsFit cs → AllLent lend (length w.store) cs → Traced F Lent w cs
   traced w [] ready fit lent = record { given = []; ends = w; trace = stop w }
@@ -59,10 +59,10 @@ module _ (F : Form) (ample : Ample F) (Lent : Call → ℕ → Type 0) (counts :
       let size : Lent c (length front) = subst (Lent c) (sym (length-take-le (lend c) w.store lent.0)) (lends c) in
       let same : view_in F w.state (front ++ rest) ≡ shown = ap (view_in F w.state) split in
       let fits : in_range (view_in F w.state front) ≡ true → least F ≤ length front → ModelFits (view_in F w.state front) =
-      λ ranged long. subst ModelFits (sym same ∙ view_front F ample w.state front rest long ranged) ready.fits in
-      let kept : Kept F ample c w.state front buffer = result_exists F ample c w.state front buffer ready.three (counts c (length front) size) fit.0 fits in
+      λ ranged long. subst ModelFits (sym same ∙ view_front F lawful w.state front rest long ranged) ready.fits in
+      let kept : Kept F lawful c w.state front buffer = result_exists F lawful c w.state front buffer ready.three (counts c (length front) size) fit.0 fits in
       let z : WorldIn F Lent = record { state = kept.result.state; store = kept.store ++ rest } in
-      let stepped = one State (view_in F) half_of (spare F) Lent fresh_state (form_shows F ample Lent counts) shown c w.state front kept.store rest buffer kept.buffer
+      let stepped = one State (view_in F) half_of (spare F) Lent fresh_state (form_shows F lawful Lent counts) shown c w.state front kept.store rest buffer kept.buffer
       kept.result ready.formed same size kept.serves in
       let after : view_in F z.state z.store ≡ (step shown c).model = stepped.after in
       let long : length z.store ≡ length w.store =
@@ -91,7 +91,7 @@ module _ (F : Form) (ample : Ample F) (Lent : Call → ℕ → Type 0) (counts :
 -- ---- the service: each call is lent as many words as it says
 
 pub trace_exists : (home : Bool) (s : Store) (cs : List Call) → CallsFit cs → AllLent store_lent (length s) cs → Traced words Counted (start home s) cs
-trace_exists = form_trace_exists words words_ample Counted counted_lent store_lent (λ c. refl)
+trace_exists = form_trace_exists words words_lawful Counted counted_lent store_lent (λ c. refl)
 
 -- The step of a trace is the contract of the service's calls.
 pub contract_steps :

@@ -7,7 +7,7 @@ use Rattle.rules.specs.Model.{Model}
 use Rattle.rules.specs.Calls.{Call, store_lent}
 use Rattle.rule_laws.specs.Fitting.{CallsFit}
 use Rattle.places.specs.Forms.{Store, bytes, least}
-use Rattle.places.specs.Places.{bytes_ample}
+use Rattle.places.specs.Places.{bytes_lawful}
 use Rattle.plan.specs.declared.State.{State}
 use Rattle.plan.specs.View.{view_in, fresh_state}
 use Rattle.refine.specs.Promise.{half_of, LentIn, spare}
@@ -32,7 +32,7 @@ ByteTrace = demand.Trace State (view_in bytes) half_of (spare bytes) (LentIn byt
 
 -- Demand 3 of it
 pub demand_3_bytes : Demand State (view_in bytes) half_of (spare bytes) (LentIn bytes) fresh_state
-demand_3_bytes = demand3 State (view_in bytes) half_of (spare bytes) (LentIn bytes) fresh_state (form_shows bytes bytes_ample (LentIn bytes) (λ c n e. e))
+demand_3_bytes = demand3 State (view_in bytes) half_of (spare bytes) (LentIn bytes) fresh_state (form_shows bytes bytes_lawful (LentIn bytes) (λ c n e. e))
 
 -- The same calls, over words and over bytes, each from a fresh start with the same setting: every outcome, id, length, reply byte and command is the same, and so is what is shown.
 pub answers_as_over_bytes :
@@ -68,4 +68,4 @@ all_lent size long [] = tt
 all_lent size long (c ∷ cs) = (lend_within c size long, all_lent size long cs)
 
 pub byte_trace_exists : (home : Bool) (t : Store) (cs : List Call) → CallsFit cs → least bytes ≤ length t → Traced bytes (LentIn bytes) (byte_start home t) cs
-byte_trace_exists home t cs fit long = form_trace_exists bytes bytes_ample (LentIn bytes) (λ c n e. e) lend lends home t cs fit (all_lent (length t) long cs)
+byte_trace_exists home t cs fit long = form_trace_exists bytes bytes_lawful (LentIn bytes) (λ c n e. e) lend lends home t cs fit (all_lent (length t) long cs)

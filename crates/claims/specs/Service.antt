@@ -6,7 +6,7 @@ use Rattle.rules.specs.Payload.{Bytes}
 use Rattle.rules.specs.Model.{Model}
 use Rattle.rules.specs.Calls.{Call, store_lent}
 use Rattle.places.specs.Forms.{Store, Form, words, least}
-use Rattle.places.specs.Places.{Ample, words_ample}
+use Rattle.places.specs.Places.{Lawful, words_lawful}
 use Rattle.plan.specs.declared.State.{State}
 use Rattle.plan.specs.View.{view_in, view, fresh_state, fresh_view}
 use Rattle.ranges.specs.Ranges.{ranged_view}
@@ -17,14 +17,14 @@ use Rattle.claims.specs.Demand3.{Got, Demand, Shows, demand3}
 
 -- a view over a form of store, each call lent so many numbers that they are too few exactly where the rules say so
 pub form_shows :
-    (F : Form) → Ample F → (Lent : Call → ℕ → Type 0) → ((c : Call) (n : ℕ) → Lent c n → LentIn F c n) → Shows State (view_in F) half_of (spare F) Lent fresh_state
-form_shows F ample Lent counts =
+    (F : Form) → Lawful F → (Lent : Call → ℕ → Type 0) → ((c : Call) (n : ℕ) → Lent c n → LentIn F c n) → Shows State (view_in F) half_of (spare F) Lent fresh_state
+form_shows F lawful Lent counts =
     record {
       starts = fresh_view F;
       ranges = λ st s s'. ranged_view F st s ∙ sym (ranged_view F st s');
       least = least F;
       counts = counts;
-      front = view_front F ample;
+      front = view_front F lawful;
     }
 
 -- ---- the service
@@ -57,7 +57,7 @@ abbrev pub gave : Result State → (buffer : Bytes) → Got
 gave = demand.got State view half_of (spare words) Counted
 
 pub service_shows : Shows State view half_of (spare words) Counted fresh_state
-service_shows = form_shows words words_ample Counted counted_lent
+service_shows = form_shows words words_lawful Counted counted_lent
 
 -- Demand 3: over every list of calls from a fresh start, with either setting and a store of any length.
 pub demand_3 : Demand State view half_of (spare words) Counted fresh_state

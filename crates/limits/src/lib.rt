@@ -62,7 +62,7 @@ pub const CHANGE_SPEED: u16 = 178;
 pub const SET_SERVO: u16 = 183;
 
 // How many jumps a flight plan has at most, how often one runs, and how many one search follows.
-pub const MAX_JUMPS: u16 = 100;
+pub const MAX_JUMPS: u16 = 15;
 
 // A count for each of them.
 pub const JUMP_COUNTS: usize = MAX_JUMPS as usize;
@@ -92,7 +92,7 @@ pub const REPLY_BYTES: usize = 54;
 // Words: of an item that is stored, and of the store.
 pub const ITEM_WORDS: usize = 8;
 
-pub const STORE_WORDS: usize = 9728;
+pub const STORE_WORDS: usize = 5632;
 
 // In the last word of an item the command stands lowest; the frame and the autocontinue begin behind it.
 pub const FRAME_UNIT: u32 = 0x1_0000;

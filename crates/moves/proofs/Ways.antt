@@ -1,26 +1,32 @@
 -- The two ways of the move: refused, and done.
 use Prim.Native.Nat.{ℕ, ◌≤◌}
-use mathlib.Core.Path.{◌≡◌, refl}
+use native.Mathlib.Omega.{arith}
+use mathlib.Core.Path.{◌≡◌, refl, sym, ap, ◌∙◌}
 use mathlib.Core.List.{[], ◌∷◌}
-use lib.ListN.{length}
+use mathlib.Core.Bool.{Bool, true}
+use lib.ListN.{length, get_or}
 use borrow.Author.Tests.{le-leb}
-use Rattle.rules.specs.Limits.{flight, fence, rally, no_reply}
+use Rattle.rules.specs.Limits.{flight, fence, rally, size_of, no_reply}
+use Rattle.rules.specs.Model.{in_range}
 use Rattle.rule_laws.specs.Kinds.{each_kind}
-use Rattle.places.specs.Forms.{Store, least}
+use Rattle.places.specs.Forms.{Store, bytes}
+use Rattle.plan.specs.declared.State.{State}
 use Rattle.plan.specs.declared.Plan.{Plan}
+use Rattle.plan.specs.View.{empty_plan, plan_of, view_in}
+use Rattle.ranges.specs.Ranges.{plans_ranged, all_ranged, in_range_lem}
+use Rattle.ranges.specs.Ranged.{PlanRanges, plans_ranged_lem, plan_ranges}
 use Rattle.upload.specs.Turns.{ended}
-use Rattle.before.specs.declared.Before.{Before}
-use Rattle.before.specs.Stores.{bytes_before, words_before, words_before_lawful}
-use Rattle.before.specs.View.{plan_before, view_before, in_range_before}
-use Rattle.before.specs.Ranges.{Lengths, each_length}
-use Rattle.before.specs.Outcome.{outcome_of}
-use Rattle.before.specs.Putting.{put_plans, plans_long, plans_beside}
-use Rattle.moves.specs.Moves.{MovesToWords}
-use Rattle.moves.specs.Moving.{words_from, ended_before, plans_moved}
+use Rattle.moves.specs.Moves.{outcome_of, MovesToWords}
+use Rattle.moves.specs.Outcome.{Movable, movable}
+use Rattle.moves.specs.Moving.{movedPlans, endedState, plans-length, plans_moved, plans_beside}
 
-module _ (b : Before) (old new : Store) (outcome : ℕ)
-    (answered : outcome ≡ outcome_of (least bytes_before) (least words_before) (in_range_before (view_before bytes_before b old)) (length old) (length new)) where
-  pub refused : (outcome ≡ no_reply → ⊥) → MovesToWords b old new b new outcome
+module _ (st : State) (old new : Store) (ranged : Bool) (outcome : ℕ)
+    (test : ranged ≡ all_ranged (plan_of st flight) (plan_of st fence) (plan_of st rally) st.current st.counts)
+    (said : outcome ≡ outcome_of ranged (length old) (length new)) where
+  answered : outcome ≡ outcome_of (in_range (view_in bytes st old)) (length old) (length new)
+  answered = said ∙ ap (λ (t : Bool). outcome_of t (length old) (length new)) (in_range_lem bytes st old ranged test)
+
+  pub refused : (outcome ≡ no_reply → ⊥) → MovesToWords st old new st new outcome
   refused other =
       record {
         answer = answered;
@@ -31,29 +37,36 @@ module _ (b : Before) (old new : Store) (outcome : ℕ)
         long = refl;
       }
 
-  module _ (done : outcome ≡ no_reply) (long : least words_before ≤ length new) (within : Lengths (plan_before b flight) (plan_before b fence) (plan_before b rally)) where
-    halves_stay : (kind : ℕ) → kind ≤ rally → (plan_before (ended_before b) kind).half ≡ (plan_before b kind).half
-    halves_stay kind known = each_kind (λ (k : ℕ). (plan_before (ended_before b) k).half ≡ (plan_before b k).half) refl refl refl kind (le-leb kind rally known)
+  module _ (done : outcome ≡ no_reply) where
+    pub facts : Movable ranged (length old) (length new)
+    facts = movable ranged (length old) (length new) (sym said ∙ done)
 
-    moves_all : MovesToWords b old new (ended_before b) (put_plans words_before new (words_from old) (plan_before b flight) (plan_before b fence) (plan_before b rally)) outcome
+    pub plans-in-range : plans_ranged (plan_of st flight) (plan_of st fence) (plan_of st rally) ≡ true
+    plans-in-range = plans_ranged_lem (plan_of st flight) (plan_of st fence) (plan_of st rally) st.current st.counts (sym test ∙ facts.in_range)
+
+    within : (kind : ℕ) → kind ≤ rally → (plan_of st kind).len ≤ size_of kind
+    within kind known =
+        let of : (k : ℕ) → k ≤ rally → PlanRanges k (get_or (plan_of st flight ∷ plan_of st fence ∷ plan_of st rally ∷ []) k empty_plan) =
+        plan_ranges (plan_of st flight) (plan_of st fence) (plan_of st rally) plans-in-range in
+        each_kind (λ (k : ℕ). (plan_of st k).len ≤ size_of k) (of flight (omega arith)).len (of fence (omega arith)).len (of rally (omega arith)).len kind (le-leb kind rally known)
+
+    halves_stay : (kind : ℕ) → kind ≤ rally → (plan_of (endedState st) kind).half ≡ (plan_of st kind).half
+    halves_stay kind known = each_kind (λ (k : ℕ). (plan_of (endedState st) k).half ≡ (plan_of st k).half) refl refl refl kind (le-leb kind rally known)
+
+    moves_all : MovesToWords st old new (endedState st) (movedPlans old new (plan_of st flight) (plan_of st fence) (plan_of st rally)) outcome
     moves_all =
-        let each = each_length (plan_before b flight) (plan_before b fence) (plan_before b rally) within in
         record {
           answer = answered;
-          shown = λ e. plans_moved b old new long within;
+          shown = λ e. plans_moved st old within new facts.new_long;
           halves = halves_stay;
           unchanged = λ other. absurd (other done);
-          beside =
-              plans_beside words_before words_before_lawful (words_from old) (plan_before b flight) (plan_before b fence) (plan_before b rally) each (λ k n known below. refl) new
-              long;
-          long =
-              plans_long words_before words_before_lawful (words_from old) (plan_before b flight) (plan_before b fence) (plan_before b rally) each (λ k n known below. refl) new
-              long;
+          beside = plans_beside st old within new facts.new_long;
+          long = plans-length st old within new facts.new_long;
         }
 
     -- the state and the store as the code has them
     pub moves :
-        (p q r : Plan) (new' : Store) → p ≡ ended (plan_before b flight) → q ≡ ended (plan_before b fence) → r ≡ ended (plan_before b rally)
-        → new' ≡ put_plans words_before new (words_from old) (plan_before b flight) (plan_before b fence) (plan_before b rally)
-        → MovesToWords b old new (record { plans = p ∷ q ∷ r ∷ []; current = b.current; begun = b.begun; home = b.home; counts = b.counts }) new' outcome
+        (p q r : Plan) (new' : Store) → p ≡ ended (plan_of st flight) → q ≡ ended (plan_of st fence) → r ≡ ended (plan_of st rally)
+        → new' ≡ movedPlans old new (plan_of st flight) (plan_of st fence) (plan_of st rally)
+        → MovesToWords st old new (record { plans = p ∷ q ∷ r ∷ []; current = st.current; begun = st.begun; home = st.home; counts = st.counts }) new' outcome
     moves p q r new' ep eq er es = rw (ep, eq, er, es) moves_all

@@ -1,28 +1,23 @@
 -- Cases of the move: how long the stores are, its outcomes on both sides of each edge and in their order, and what is moved of an item. One table, and one statement:
 -- every case holds.
-use Rattle.std.specs.Prelude.{ℕ, refl, List, [], ◌∷◌, ◌++◌, Bool, true, false}
+use Rattle.std.specs.Prelude.{refl, List, [], ◌∷◌, ◌++◌, true, false}
 use Rattle.rules.specs.Limits.{flight, rally}
 use Rattle.rules.specs.Payload.{Bytes}
 use Rattle.rules.specs.Cases.{computing, Case, numbers, bytes, ◌is◌, Hold}
+use Rattle.places.specs.Forms as form
 use Rattle.places.specs.Forms.{least}
-use Rattle.before.specs.Stores.{bytes_before, words_before}
-use Rattle.before.specs.Outcome.{outcome_of}
-use Rattle.moves.specs.Moves.{placed}
+use Rattle.moves.specs.Moves.{outcome_of, placed}
 
 -- the first 28 bytes of an item: params, x, y and z
 abbrev front : Bytes
 front = 1 ∷ 0 ∷ 0xc0 ∷ 0x7f ∷ 2 ∷ 0 ∷ 0 ∷ 0 ∷ 3 ∷ 0 ∷ 0 ∷ 0 ∷ 4 ∷ 0 ∷ 0 ∷ 0x80 ∷ 5 ∷ 0 ∷ 0 ∷ 0 ∷ 6 ∷ 0 ∷ 0 ∷ 0xff ∷ 7 ∷ 0 ∷ 0 ∷ 0 ∷ []
 
--- of stores of these lengths
-abbrev outcome : (ranged : Bool) (old_length new_length : ℕ) → ℕ
-outcome ranged old new = outcome_of (least bytes_before) (least words_before) ranged old new
-
 abbrev pub moves : List Case
 moves =
-    (numbers (least bytes_before ∷ least words_before ∷ []) is numbers (26752 ∷ 5632 ∷ []))
+    (numbers (least form.bytes ∷ least form.words ∷ []) is numbers (26752 ∷ 5632 ∷ []))
     -- "14 if either store is too short, then 15, .. else 1"
-    ∷ (numbers (outcome true 26752 5632 ∷ outcome true 26751 5632 ∷ outcome true 26752 5631 ∷ outcome true 0 0 ∷ []) is numbers (1 ∷ 14 ∷ 14 ∷ 14 ∷ []))
-    ∷ (numbers (outcome false 26752 5632 ∷ outcome false 26751 5632 ∷ outcome false 26752 5631 ∷ []) is numbers (15 ∷ 14 ∷ 14 ∷ []))
+    ∷ (numbers (outcome_of true 26752 5632 ∷ outcome_of true 26751 5632 ∷ outcome_of true 26752 5631 ∷ outcome_of true 0 0 ∷ []) is numbers (1 ∷ 14 ∷ 14 ∷ 14 ∷ []))
+    ∷ (numbers (outcome_of false 26752 5632 ∷ outcome_of false 26751 5632 ∷ outcome_of false 26752 5631 ∷ []) is numbers (15 ∷ 14 ∷ 14 ∷ []))
     -- an item as it is stored stays as it is
     ∷ (bytes (placed flight 3 (front ++ (3 ∷ 0 ∷ 0xb1 ∷ 0 ∷ 0 ∷ 0 ∷ 2 ∷ 0 ∷ 1 ∷ 0 ∷ []))) is bytes (front ++ (3 ∷ 0 ∷ 0xb1 ∷ 0 ∷ 0 ∷ 0 ∷ 2 ∷ 0 ∷ 1 ∷ 0 ∷ [])))
     -- "these eight words only": seq, kind, address and current that a host wrote are not moved, and nothing is judged

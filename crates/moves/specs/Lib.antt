@@ -1,5 +1,6 @@
 -- The move from bytes to words.
 pub mod Moves
+pub mod Outcome
 pub mod Moving
 pub mod Same
 pub mod Cases

@@ -1,17 +1,20 @@
--- What the move from bytes to words gives, for every state and every two stores from before M-110. M-106: "a one-time move of the three plans (these eight words only) from the
--- old store to the new; running uploads end. It answers 14 if either store is too short, then 15, changing nothing, else 1."
-use Rattle.std.specs.Prelude.{ℕ, suc, ◌≤◌, ◌≡◌, List, [], ◌∷◌, map, false, length, get_or}
-use Rattle.rules.specs.Limits.{rally, kinds, no_reply}
+-- What the move from bytes to words gives, for every state and every two stores. M-106: "a one-time move of the three plans (these eight words only) from the old store
+-- to the new; running uploads end. It answers 14 if either store is too short, then 15, changing nothing, else 1."
+use Rattle.std.specs.Prelude.{ℕ, suc, ◌≤◌, ◌≡◌, List, [], ◌∷◌, map, Bool, false, cond, ◌&&◌, ◌||◌, length, get_or, leb, ltb}
+use Rattle.rules.specs.Limits.{flight, fence, rally, kinds, no_reply, short_store, out_of_range}
 use Rattle.rules.specs.Payload.{Bytes}
 use Rattle.rules.specs.Messages.{item_of, item_in}
 use Rattle.rules.specs.Words.{words_of, item_of_words}
-use Rattle.rules.specs.Model.{idle, Model, plan_of}
-use Rattle.places.specs.Forms.{Store, least}
-use Rattle.before.specs.declared.Before.{Before}
-use Rattle.before.specs.Stores.{bytes_before, words_before}
-use Rattle.before.specs.View.{plan_before, view_before, in_range_before}
-use Rattle.before.specs.Outcome.{outcome_of}
-use Rattle.before.specs.Putting.{in_plans}
+use Rattle.rules.specs.Model.{idle, Model, plan_of, in_range}
+use Rattle.places.specs.Forms.{Store, words, bytes, least, offset_of}
+use Rattle.plan.specs.declared.State.{State}
+use Rattle.plan.specs.View as plan
+use Rattle.plan.specs.View.{view_in, view}
+
+-- "14 if either store is too short, then 15, .. else 1"
+abbrev pub outcome_of : (ranged : Bool) (old_length new_length : ℕ) → ℕ
+outcome_of ranged old_length new_length =
+    cond (ltb old_length (least bytes) || ltb new_length (least words)) short_store (cond ranged no_reply out_of_range)
 
 -- "these eight words only": the stored item that the words of a stored item are as number n of a kind
 abbrev pub placed : (kind n : ℕ) → Bytes → Bytes
@@ -37,16 +40,23 @@ moved m =
       uploads = map (λ (kind : ℕ). idle) kinds;
     }
 
--- The move of a state b and its store of bytes `old` to a store of words `new` gives the state b', the store new' and an outcome. Nothing is free. The store of bytes is
+-- word i of the store is one of a plan's items
+abbrev pub in_plan : State → (kind i : ℕ) → Bool
+in_plan st kind i = let p = plan.plan_of st kind in leb (offset_of words p.half kind 0) i && ltb i (offset_of words p.half kind p.len)
+
+abbrev pub in_plans : State → ℕ → Bool
+in_plans st i = in_plan st flight i || in_plan st fence i || in_plan st rally i
+
+-- The move of a state st and its store of bytes `old` to a store of words `new` gives the state st', the store new' and an outcome. Nothing is free. The store of bytes is
 -- lent for reading.
-pub record MovesToWords (b : Before) (old new : Store) (b' : Before) (new' : Store) (outcome : ℕ) : Type 0 where
-  pub answer : outcome ≡ outcome_of (least bytes_before) (least words_before) (in_range_before (view_before bytes_before b old)) (length old) (length new)
+pub record MovesToWords (st : State) (old new : Store) (st' : State) (new' : Store) (outcome : ℕ) : Type 0 where
+  pub answer : outcome ≡ outcome_of (in_range (view_in bytes st old)) (length old) (length new)
   -- what is shown after it
-  pub shown : outcome ≡ no_reply → view_before words_before b' new' ≡ moved (view_before bytes_before b old)
+  pub shown : outcome ≡ no_reply → view st' new' ≡ moved (view_in bytes st old)
   -- each plan keeps its half
-  pub halves : (kind : ℕ) → kind ≤ rally → (plan_before b' kind).half ≡ (plan_before b kind).half
+  pub halves : (kind : ℕ) → kind ≤ rally → (plan.plan_of st' kind).half ≡ (plan.plan_of st kind).half
   -- "changing nothing"
-  pub unchanged : (outcome ≡ no_reply → ⊥) → (b' ≡ b) × (new' ≡ new)
+  pub unchanged : (outcome ≡ no_reply → ⊥) → (st' ≡ st) × (new' ≡ new)
   -- every word outside the places of the moved plans stays
-  pub beside : (i : ℕ) → in_plans words_before b.plans i ≡ false → get_or new' i 0 ≡ get_or new i 0
+  pub beside : (i : ℕ) → in_plans st i ≡ false → get_or new' i 0 ≡ get_or new i 0
   pub long : length new' ≡ length new

@@ -1,66 +1,169 @@
--- The words that each item is moved as, and what the store shows after the three plans were moved, one after the other.
-use Rattle.std.specs.Prelude.{ℕ, zero, suc, ◌+◌, ◌≤◌, ◌<◌, ◌≡◌, List, [], ◌∷◌, Bool, length, get_or}
-use Rattle.std.proofs.Common.{arith, sym, ap, ap₂, ◌∙◌}
-use Rattle.std.proofs.Math.Path.{refl}
-use Rattle.rules.specs.Limits.{flight, fence, rally}
+-- The store after the items of a plan were moved, as the code moves them, one after the other; and what it shows.
+use Prim.Native.Nat.{ℕ, zero, suc, ◌+◌, ◌≤◌, ◌<◌}
+use Rattle.std.proofs.Common.{arith, ◌∙◌}
+use Rattle.std.specs.Prelude.{◌≡◌, ◌⊎◌, Bool, false, ◌||◌, length, get_or}
+use Rattle.std.proofs.Math.Path.{refl, sym, ap}
+use mathlib.Core.List.{List, [], ◌∷◌, ◌++◌}
+use Rattle.rules.specs.Limits.{flight, fence, rally, size_of}
 use Rattle.rules.specs.Payload.{Bytes}
 use Rattle.rules.specs.Messages.{item_in}
 use Rattle.rules.specs.Words.{words_of}
-use Rattle.places.specs.Forms.{Store, least, item_at, items_in, length_items, items_at}
+use Rattle.rule_laws.specs.Tests.{neither, outside}
+use Rattle.rule_laws.specs.Words.{length_words_of}
+use Rattle.places.specs.Forms.{Store, words, bytes, least, offset_of, item_at, items_in, length_items}
+use Rattle.places.specs.Places.{words_lawful}
+use Rattle.places.specs.Writes.{put_at, other_kind, Leaves, leaves_same, leaves_both, leaves_wider, put_leaves, items_left, items_more}
+use Rattle.plan.specs.declared.State.{State}
 use Rattle.plan.specs.declared.Plan.{Plan}
-use Rattle.plan.specs.View.{empty_plan, upload_in, view_in}
+use Rattle.plan.specs.View.{plan_of, upload_in, view_in, view}
 use Rattle.upload.specs.Turns.{ended}
-use Rattle.before.specs.declared.Before.{Before}
-use Rattle.before.specs.Stores.{bytes_before, words_before, words_before_lawful}
-use Rattle.before.specs.View.{plan_before, view_before}
-use Rattle.before.specs.Ranges.{Lengths, each_length}
-use Rattle.before.specs.Putting.{put_plans, plans_items}
-use Rattle.moves.specs.Moves.{placed, placed_from, moved}
+use Rattle.moves.specs.Moves.{placed, placed_from, moved, in_plan, in_plans}
 
--- the eight words of the item with a number of a kind
-abbrev pub words_from : (old : Store) (half : Bool) (kind n : ℕ) → List ℕ
-words_from old half kind n = words_of (item_in (item_at bytes_before old half kind n))
+-- the store with the first n items of a kind in a half put into their places
+unfoldable pub movedItems : (old new : Store) (half : Bool) (kind n : ℕ) → Store
+movedItems old new half kind zero = new
+movedItems old new half kind (suc n) = put_at words (movedItems old new half kind n) half kind n (words_of (item_in (item_at bytes old half kind n)))
 
-pub placed_length : (kind n : ℕ) (items : List Bytes) → length (placed_from kind n items) ≡ length items
-placed_length kind n [] = refl
-placed_length kind n (b ∷ items) = ap suc (placed_length kind (suc n) items)
+-- the store with the items of the three plans put into theirs
+unfoldable pub movedPlans : (old new : Store) (flight fence rally : Plan) → Store
+movedPlans old new p q r = movedItems old (movedItems old (movedItems old new p.half flight p.len) q.half fence q.len) r.half rally r.len
 
-pub placed_at : (kind n : ℕ) (items : List Bytes) (i : ℕ) → i < length items → get_or (placed_from kind n items) i [] ≡ placed kind (n + i) (get_or items i [])
-placed_at kind n [] i below = absurd (omega arith)
-placed_at kind n (b ∷ items) zero below = ap (λ (k : ℕ). placed kind k b) (omega arith)
-placed_at kind n (b ∷ items) (suc i) below =
-    placed_at kind (suc n) items i (omega arith) ∙ ap (λ (k : ℕ). placed kind k (get_or items i [])) (omega arith)
+pub placed-more : (kind n : ℕ) (items : List Bytes) (b : Bytes) → placed_from kind n (items ++ (b ∷ [])) ≡ placed_from kind n items ++ (placed kind (n + length items) b ∷ [])
+placed-more kind n [] b = ap (λ (k : ℕ). placed kind k b ∷ []) (omega arith)
+placed-more kind n (a ∷ items) b =
+    ap (λ (l : List Bytes). placed kind n a ∷ l)
+    (placed-more kind (suc n) items b ∙ ap (λ (k : ℕ). placed_from kind (suc n) items ++ (placed kind k b ∷ [])) (omega arith))
+
+module _ (old new : Store) (long : least words ≤ length new) (half : Bool) (kind : ℕ) (known : kind ≤ rally) where
+  -- what is elsewhere stays
+  moved-leaves : (n : ℕ) → n ≤ size_of kind → Leaves words half kind 0 n new (movedItems old new half kind n)
+  unfolding movedItems
+  moved-leaves zero within = leaves_same words half kind 0 0 new
+  moved-leaves (suc n) within =
+      let so_far = movedItems old new half kind n in
+      let rest = moved-leaves n (omega arith) in
+      let item = item_in (item_at bytes old half kind n) in
+      let put = put_at words so_far half kind n (words_of item) in
+      leaves_both words half kind 0 (suc n) new so_far put
+      (leaves_wider words half kind 0 n 0 (suc n) new so_far (omega arith) (omega arith) rest)
+      (leaves_wider words half kind n (n + 1) 0 (suc n) so_far put (omega arith) (omega arith)
+      (put_leaves words words_lawful so_far (omega (arith, rest.long)) (words_of item) (length_words_of item) half kind n known (omega arith)))
+
+  pub moved_length : (n : ℕ) → n ≤ size_of kind → length (movedItems old new half kind n) ≡ length new
+  moved_length n within = (moved-leaves n within).long
+
+  -- the items that were moved
+  pub moved-items : (n : ℕ) → n ≤ size_of kind → items_in words (movedItems old new half kind n) half kind n ≡ placed_from kind 0 (items_in bytes old half kind n)
+  unfolding movedItems items_in
+  moved-items zero within = refl
+  moved-items (suc n) within =
+      let b = item_at bytes old half kind n in
+      let item = item_in b in
+      items_more words words_lawful (movedItems old new half kind n) (omega (arith, moved_length n (omega arith))) (words_of item) (length_words_of item) half kind n known (omega arith)
+      ∙ ap (λ (l : List Bytes). l ++ (placed kind n b ∷ [])) (moved-items n (omega arith))
+      ∙ ap (λ (k : ℕ). placed_from kind 0 (items_in bytes old half kind n) ++ (placed kind k b ∷ [])) (omega (arith, length_items bytes old half kind n))
+      ∙ sym (placed-more kind 0 (items_in bytes old half kind n) b)
+
+  -- the items of another kind
+  pub moved_apart :
+      (n : ℕ) → n ≤ size_of kind → (half' : Bool) (kind' m : ℕ) → kind' ≤ rally → m ≤ size_of kind' → (kind' ≡ kind → ⊥)
+      → items_in words (movedItems old new half kind n) half' kind' m ≡ items_in words new half' kind' m
+  moved_apart n within half' kind' m known' within' other =
+      items_left words half kind 0 n new (movedItems old new half kind n) (moved-leaves n within) half' kind' m known' within' (λ i below. other_kind other)
+
+  -- every word outside their places
+  pub moved-beside :
+      (n : ℕ) → n ≤ size_of kind → (i : ℕ) → (i < offset_of words half kind 0) ⊎ (offset_of words half kind n ≤ i)
+      → get_or (movedItems old new half kind n) i 0 ≡ get_or new i 0
+  moved-beside n within = (moved-leaves n within).numbers
+
+-- ---- the three plans of a state, each with no more items than its kind's size
 
 -- the state after the move: every upload ended
-abbrev pub ended_before : Before → Before
-ended_before b =
+abbrev pub endedState : State → State
+endedState st =
     record {
-      plans = ended (plan_before b flight) ∷ ended (plan_before b fence) ∷ ended (plan_before b rally) ∷ [];
-      current = b.current;
-      begun = b.begun;
-      home = b.home;
-      counts = b.counts;
+      plans = ended (plan_of st flight) ∷ ended (plan_of st fence) ∷ ended (plan_of st rally) ∷ [];
+      current = st.current;
+      begun = st.begun;
+      home = st.home;
+      counts = st.counts;
     }
 
-module _ (b : Before) (old new : Store) (long : least words_before ≤ length new) (within : Lengths (plan_before b flight) (plan_before b fence) (plan_before b rally)) where
-  abbrev pub after : Store
-  after = put_plans words_before new (words_from old) (plan_before b flight) (plan_before b fence) (plan_before b rally)
+module _ (st : State) (old : Store) (within : (kind : ℕ) → kind ≤ rally → (plan_of st kind).len ≤ size_of kind) where
+  -- the store with the plan of a kind moved into it
+  abbrev moveOne : (kind : ℕ) → Store → Store
+  moveOne kind s = movedItems old s (plan_of st kind).half kind (plan_of st kind).len
 
-  items_moved :
-      (kind : ℕ) → kind ≤ rally
-      → let plan = get_or (plan_before b flight ∷ plan_before b fence ∷ plan_before b rally ∷ []) kind empty_plan in
-      items_in words_before after plan.half kind plan.len ≡ placed_from kind 0 (items_in bytes_before old plan.half kind plan.len)
-  items_moved kind known =
-      let plan : Plan = get_or (plan_before b flight ∷ plan_before b fence ∷ plan_before b rally ∷ []) kind empty_plan in
-      let items = items_in bytes_before old plan.half kind plan.len in
-      let all : length items ≡ plan.len = length_items bytes_before old plan.half kind plan.len in
-      plans_items words_before words_before_lawful (words_from old) (plan_before b flight) (plan_before b fence) (plan_before b rally)
-      (each_length (plan_before b flight) (plan_before b fence) (plan_before b rally) within) (λ k n known' below. refl) new long kind known (placed_from kind 0 items) (placed_length kind 0 items ∙ all)
-      (λ i below.
-      sym
-      (placed_at kind 0 items i (omega (arith, all))
-      ∙ ap₂ (placed kind) (let same : 0 + i ≡ i = omega arith in same) (items_at bytes_before old plan.half kind plan.len i below)))
+  -- a store of words shows what was moved of a kind
+  abbrev Shows : (kind : ℕ) → Store → Type 0
+  Shows kind s = items_in words s (plan_of st kind).half kind (plan_of st kind).len ≡ placed_from kind 0 (items_in bytes old (plan_of st kind).half kind (plan_of st kind).len)
 
-  pub plans_moved : view_before words_before (ended_before b) after ≡ moved (view_before bytes_before b old)
-  unfolding view_in upload_in moved
-  plans_moved = rw (items_moved flight (omega arith), items_moved fence (omega arith), items_moved rally (omega arith)) refl
+  module _ (s : Store) (long : least words ≤ length s) (kind : ℕ) (known : kind ≤ rally) where
+    one-length : length (moveOne kind s) ≡ length s
+    one-length = moved_length old s long (plan_of st kind).half kind known (plan_of st kind).len (within kind known)
+
+    one_long : least words ≤ length (moveOne kind s)
+    one_long = omega (arith, one-length)
+
+    one-shown : Shows kind (moveOne kind s)
+    one-shown = moved-items old s long (plan_of st kind).half kind known (plan_of st kind).len (within kind known)
+
+    -- what was moved before stays
+    others_shown : (other : ℕ) → other ≤ rally → (other ≡ kind → ⊥) → Shows other s → Shows other (moveOne kind s)
+    others_shown other known' apart shown =
+        moved_apart old s long (plan_of st kind).half kind known (plan_of st kind).len (within kind known) (plan_of st other).half other (plan_of st other).len known' (within other known') apart
+        ∙ shown
+
+    one_beside : (i : ℕ) → in_plan st kind i ≡ false → get_or (moveOne kind s) i 0 ≡ get_or s i 0
+    one_beside i e =
+        moved-beside old s long (plan_of st kind).half kind known (plan_of st kind).len (within kind known) i
+        (outside (offset_of words (plan_of st kind).half kind 0) (offset_of words (plan_of st kind).half kind (plan_of st kind).len) i e)
+
+  -- the three plans, one after the other
+  module _ (new : Store) (long : least words ≤ length new) where
+    abbrev after_flight : Store
+    after_flight = moveOne flight new
+
+    abbrev after_fence : Store
+    after_fence = moveOne fence after_flight
+
+    abbrev afterAll : Store
+    afterAll = movedPlans old new (plan_of st flight) (plan_of st fence) (plan_of st rally)
+
+    long_flight : least words ≤ length after_flight
+    long_flight = one_long new long flight (omega arith)
+
+    long_fence : least words ≤ length after_fence
+    long_fence = one_long after_flight long_flight fence (omega arith)
+
+    pub plans-length : length afterAll ≡ length new
+    unfolding movedPlans
+    plans-length = one-length after_fence long_fence rally (omega arith) ∙ one-length after_flight long_flight fence (omega arith) ∙ one-length new long flight (omega arith)
+
+    fence-shown : Shows fence afterAll
+    unfolding movedPlans
+    fence-shown = others_shown after_fence long_fence rally (omega arith) fence (omega arith) (λ e. omega arith) (one-shown after_flight long_flight fence (omega arith))
+
+    flight-shown : Shows flight afterAll
+    unfolding movedPlans
+    flight-shown =
+        others_shown after_fence long_fence rally (omega arith) flight (omega arith) (λ e. omega arith)
+        (others_shown after_flight long_flight fence (omega arith) flight (omega arith) (λ e. omega arith) (one-shown new long flight (omega arith)))
+
+    rally-shown : Shows rally afterAll
+    unfolding movedPlans
+    rally-shown = one-shown after_fence long_fence rally (omega arith)
+
+    pub plans_moved : view (endedState st) afterAll ≡ moved (view_in bytes st old)
+    unfolding view_in upload_in moved
+    plans_moved = rw (flight-shown, fence-shown, rally-shown) refl
+
+    pub plans_beside : (i : ℕ) → in_plans st i ≡ false → get_or afterAll i 0 ≡ get_or new i 0
+    unfolding movedPlans
+    plans_beside i e =
+        let two = neither (in_plan st flight i || in_plan st fence i) (in_plan st rally i) e in
+        let one = neither (in_plan st flight i) (in_plan st fence i) two.0 in
+        one_beside after_fence long_fence rally (omega arith) i two.1
+        ∙ one_beside after_flight long_flight fence (omega arith) i one.1
+        ∙ one_beside new long flight (omega arith) i one.0

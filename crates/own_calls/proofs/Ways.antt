@@ -26,7 +26,7 @@ use Rattle.plan.specs.declared.Plan.{Plan}
 use Rattle.plan.specs.declared.Upload.{Upload}
 use Rattle.plan.specs.declared.Upload.TheVariants.{Idle, Running}
 use Rattle.places.specs.Forms.{Store, words, items_in}
-use Rattle.places.specs.Places.{words_ample}
+use Rattle.places.specs.Places.{words_lawful}
 use Rattle.plan.specs.View.{plan_of, view_in, view}
 use Rattle.ranges.specs.Ranges.{all_ranged, in_range_lem}
 use Rattle.ranges.specs.Ranged.{flight_length, current_below}
@@ -61,11 +61,11 @@ served st h = record { state = st; outcome = h.said.outcome; id = h.said.id; len
 
 -- a handler's effect, put into the state, serves the call
 pub applied_serves :
-    (c : Call) (st : State) (s s' : Store) (b b' : Bytes) (k : ℕ) (d : Done) (h : Handled) → Steps words words_ample c st s (after st k d) → command_in d.answer ≡ rules.stuck
+    (c : Call) (st : State) (s s' : Store) (b b' : Bytes) (k : ℕ) (d : Done) (h : Handled) → Steps words words_lawful c st s (after st k d) → command_in d.answer ≡ rules.stuck
     → DoneBy d s' b b' h → (e : Effect) → h.effect ≡ e → Serves c st s s' b b' (served_result (served (applied st k e) h))
 applied_serves c st s s' b b' k d h steps stuck by e is =
     let spoken = by.handles.spoken in
-    steps_serve words words_ample c st s s' b b' (after st k d) (served_result (served (applied st k e) h)) steps
+    steps_serve words words_lawful c st s s' b b' (after st k d) (served_result (served (applied st k e) h)) steps
     (record {
       state = ap (applied st k) (sym is ∙ by.handles.effect);
       store = by.store;
@@ -148,7 +148,7 @@ module _ (st : State) (s : Store) (b : Bytes) (kind clock : ℕ) (taken : TimerT
       let agree = timer_agrees words st s taken.three kind known clock in
       let u = model.upload_of (view st s) kind in
       applied_serves c st s s b b' kind (timer_done (plan_of st kind) s clock kind) h
-      (timer_steps words words_ample c st s taken.three taken.ranges clock kind known taken.says)
+      (timer_steps words words_lawful c st s taken.three taken.ranges clock kind known taken.says)
       (ap command_in agree.answer ∙ plain_stuck (on_timer u (view st s) clock kind).answer (timer_plain (view st s) u clock kind))
       (record { handles = by s; store = refl }) e is
 
@@ -207,8 +207,8 @@ module _ (st : State) (s : Store) (taken : DoneTaken st s) (f : Found)
       let st' = reached_state st stands f.n f.counts in
       let r = advance_result (record { state = st'; outcome = no_reply; command = f.command }) in
       let by : OrderedBy st s st' f.command = subst (λ (t : Bool). OrderedBy st s (reached_state st t f.n f.counts) f.command) is ordered in
-      steps_serve words words_ample (done (length s)) st s s [] [] (gives st' s (orders (rules.answer_of (rules.next (view st s).shown)))) r
-      (done_steps words words_ample (done (length s)) st s taken.three taken.ranges st' by.shown by.plans taken.says)
+      steps_serve words words_lawful (done (length s)) st s s [] [] (gives st' s (orders (rules.answer_of (rules.next (view st s).shown)))) r
+      (done_steps words words_lawful (done (length s)) st s taken.three taken.ranges st' by.shown by.plans taken.says)
       (record { state = refl; store = refl; outcome = refl; id = refl; len = refl; command = by.answer; buffer = refl; reads = tt })
 
   pub done_stands : f.stands ≡ true

@@ -7,7 +7,7 @@ use Rattle.rules.specs.NextCommand as rules
 use Rattle.rules.specs.Calls.{Call, refuses, heard}
 use Rattle.rules.specs.Step.{refused}
 use Rattle.places.specs.Forms.{Store, words}
-use Rattle.places.specs.Places.{words_ample}
+use Rattle.places.specs.Places.{words_lawful}
 use Rattle.plan.specs.declared.State.{State}
 use Rattle.plan.specs.View.{view}
 use Rattle.refusal.specs.Refusals.{refusal_of, refused_with}
@@ -38,6 +38,6 @@ pub refused_serves :
     → Serves c st s s b b (record { state = st; outcome = outcome; id = 0; len = 0; command = rules.stuck })
 refused_serves c st s b ranged outcome in_range_lem e other =
     let says : heard ranged c ≡ refuses outcome = refused_with (heard ranged c) outcome (sym e) other in
-    steps_serve words words_ample c st s s b b (gives st s (refused outcome)) (record { state = st; outcome = outcome; id = 0; len = 0; command = rules.stuck })
-    (refused_steps words words_ample c st s outcome (ap (λ (t : Bool). heard t c) (sym in_range_lem) ∙ says))
+    steps_serve words words_lawful c st s s b b (gives st s (refused outcome)) (record { state = st; outcome = outcome; id = 0; len = 0; command = rules.stuck })
+    (refused_steps words words_lawful c st s outcome (ap (λ (t : Bool). heard t c) (sym in_range_lem) ∙ says))
     (record { state = refl; store = refl; outcome = refl; id = refl; len = refl; command = refl; buffer = refl; reads = tt })

@@ -5,7 +5,7 @@ use Rattle.std.proofs.Common.{◌∙◌, sym, ap, subst, inl, inr, arith, length
 use Rattle.std.proofs.Math.Bool.{not-not}
 use Prim.Native.Nat.{ℕ, zero, suc, ◌+◌, ◌-◌, ◌≤◌, ◌<◌}
 use Rattle.std.proofs.Math.Decide.{dec_lt}
-use Rattle.rules.specs.Limits.{rally}
+use Rattle.rules.specs.Limits.{rally, size_of}
 use Rattle.rules.specs.Payload.{Bytes}
 use Rattle.rules.specs.Model.{Task, whole}
 use Rattle.rule_laws.specs.Tasks.{TaskRanges}
@@ -30,7 +30,7 @@ module _ (F : Form) where
   filled s half kind t = carried (carried s half kind 0 t.first) half kind (t.last + 1) (t.count - (t.last + 1))
 
 module _ (F : Form) (lawful : Lawful F) (half : Bool) (kind : ℕ) (known : kind ≤ rally) where
-  module _ (s : Store) (long : least F ≤ length s) (n : ℕ) (below : n < F.room kind) where
+  module _ (s : Store) (long : least F ≤ length s) (n : ℕ) (below : n < size_of kind) where
     item_wide : length (part s (offset_of F half kind n) F.width) ≡ F.width
     item_wide = length_part_within s (offset_of F half kind n) F.width (omega (arith, offset_within F lawful half kind n known below))
 
@@ -45,7 +45,7 @@ module _ (F : Form) (lawful : Lawful F) (half : Bool) (kind : ℕ) (known : kind
   own_half = sym (not-not half)
 
   module _ (s : Store) (long : least F ≤ length s) (low : ℕ) where
-    pub carried_leaves : (n : ℕ) → low + n ≤ F.room kind → Leaves F (not half) kind low (low + n) s (carried F s half kind low n)
+    pub carried_leaves : (n : ℕ) → low + n ≤ size_of kind → Leaves F (not half) kind low (low + n) s (carried F s half kind low n)
     unfolding carried
     carried_leaves zero within = leaves_same F (not half) kind low (low + 0) s
     carried_leaves (suc n) within =
@@ -57,7 +57,7 @@ module _ (F : Form) (lawful : Lawful F) (half : Bool) (kind : ℕ) (known : kind
         (one_leaves so_far (omega (arith, rest.long)) (low + n) (omega arith)))
 
     -- each item carried stands in the other half as it stands in its own
-    pub carried_item : (n i : ℕ) → low + n ≤ F.room kind → low ≤ i → i < low + n → item_at F (carried F s half kind low n) (not half) kind i ≡ item_at F s half kind i
+    pub carried_item : (n i : ℕ) → low + n ≤ size_of kind → low ≤ i → i < low + n → item_at F (carried F s half kind low n) (not half) kind i ≡ item_at F s half kind i
     unfolding carried
     carried_item zero i within from upto = absurd (omega arith)
     carried_item (suc n) i within from upto = go (dec_lt i (low + n)) (carried_item n i (omega arith) from)
@@ -82,7 +82,7 @@ module _ (F : Form) (lawful : Lawful F) (half : Bool) (kind : ℕ) (known : kind
             ∙ ap (item_at F s half kind) (sym is)
 
   -- a part of a plan of `len` items in `half`, whose own items stand in the other half
-  module _ (s : Store) (long : least F ≤ length s) (t : Task) (next len : ℕ) (ranges : TaskRanges len t next) (within : t.count ≤ F.room kind) where
+  module _ (s : Store) (long : least F ≤ length s) (t : Task) (next len : ℕ) (ranges : TaskRanges len t next) (within : t.count ≤ size_of kind) where
     abbrev front : Store
     front = carried F s half kind 0 t.first
 

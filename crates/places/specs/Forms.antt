@@ -1,5 +1,5 @@
 -- The forms of a store: how many of its numbers an item takes and which stored item they are, and where the items of a kind stand in either half. The store of
--- the service is one of words (M-106).
+-- the service is one of words (M-106); that from which plans are moved into it is one of bytes.
 use Rattle.std.specs.Prelude.{◌≡◌, Bool, cond, length, get_or}
 use Rattle.std.proofs.Math.Path.{refl, ap}
 use Rattle.std.proofs.Common.{◌∙◌, sym, arith, not-suc-le-zero}
@@ -9,7 +9,7 @@ use Rattle.std.proofs.Math.Decide.{dec_lt}
 use Rattle.std.proofs.Math.Numerals.{add-one}
 use Rattle.std.proofs.Math.ListN.{length-append, get_or-append}
 use Rattle.std.proofs.lemmas.List.{get_or_at}
-use Rattle.rules.specs.Limits.{half_places, first_place_of, size_of, item_bytes, item_words}
+use Rattle.rules.specs.Limits.{half_places, first_place_of, item_bytes, item_words}
 use Rattle.rules.specs.Payload.{Bytes}
 use Rattle.rules.specs.Messages.{Item, item_of}
 use Rattle.rules.specs.Words.{words_of, item_of_words}
@@ -26,10 +26,9 @@ pub record Form : Type 0 where
   pub keeps : Item → List ℕ
   -- the stored item, all 38 bytes, that numbers are as number n of a kind
   pub stored : List ℕ → (kind n : ℕ) → Bytes
-  -- the item places of a half, the place at which a kind begins in it, and how many items of a kind have a place
+  -- the item places of a half, and the place at which a kind begins in it
   pub places : ℕ
   pub first : ℕ → ℕ
-  pub room : ℕ → ℕ
 
 -- "Keep each item as eight words"; "Seq and kind follow from the place; a stored item's other fields are 0"
 abbrev pub words : Form
@@ -40,10 +39,9 @@ words =
       stored = λ w kind n. item_of (item_of_words w kind n);
       places = half_places;
       first = first_place_of;
-      room = size_of;
     }
 
--- "A stored item is payload 73, all 38 bytes": document 01's store, with the places of the day
+-- "A stored item is payload 73, all 38 bytes": document 01's store
 abbrev pub bytes : Form
 bytes =
     record {
@@ -52,11 +50,10 @@ bytes =
       stored = λ b kind n. b;
       places = half_places;
       first = first_place_of;
-      room = size_of;
     }
 
 module _ (F : Form) where
-  -- how long a store is at least: of words "2 x 608 x 8"
+  -- how long a store is at least: of words "2 x 352 x 8", of bytes "2 x 352 x 38"
   abbrev pub least : ℕ
   least = 2 * F.places * F.width
 

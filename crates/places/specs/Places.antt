@@ -1,5 +1,5 @@
 -- What is asked of a form of store, shown of both, and the laws of places that follow, for every such form: a place is in the store, and is the place of no
--- other item. A form is ample where every plan of the rules' sizes has its places in it.
+-- other item.
 use Rattle.std.specs.Prelude.{◌≡◌, refl, Bool, ℕ, zero, suc, ◌+◌, ◌*◌, ◌^◌, ◌≤◌, ◌<◌, length}
 use Rattle.std.proofs.Common.{ap, arith}
 use Rattle.std.proofs.Math.Bool.{true, false}
@@ -16,12 +16,8 @@ pub record Lawful (F : Form) : Type 0 where
   pub wide : (item : Item) → length (F.keeps item) ≡ F.width
   pub kept : (item : Item) → F.stored (F.keeps item) item.kind item.seq ≡ item_of item
   -- a kind's places are in the half, and before those of the kinds after it
-  pub within : (kind : ℕ) → kind ≤ rally → F.first kind + F.room kind ≤ F.places
-  pub ordered : (kind later : ℕ) → kind < later → later ≤ rally → F.first kind + F.room kind ≤ F.first later
-
-pub record Ample (F : Form) : Type 0 where
-  pub lawful : Lawful F
-  pub holds : (kind : ℕ) → size_of kind ≤ F.room kind
+  pub within : (kind : ℕ) → kind ≤ rally → F.first kind + size_of kind ≤ F.places
+  pub ordered : (kind later : ℕ) → kind < later → later ≤ rally → F.first kind + size_of kind ≤ F.first later
 
 -- ---- the tables of places and sizes
 
@@ -55,12 +51,6 @@ words_lawful = record { wide = length_words_of; kept = words_kept; within = firs
 pub bytes_lawful : Lawful bytes
 bytes_lawful = record { wide = length_item_of; kept = λ item. refl; within = first_within; ordered = first_before_lem }
 
-pub words_ample : Ample words
-words_ample = record { lawful = words_lawful; holds = λ kind. omega arith }
-
-pub bytes_ample : Ample bytes
-bytes_ample = record { lawful = bytes_lawful; holds = λ kind. omega arith }
-
 pub offset_next : (F : Form) (half : Bool) (kind n : ℕ) → offset_of F half kind (n + 1) ≡ offset_of F half kind n + F.width
 unfolding offset_of place_of
 offset_next F half kind n = omega arith
@@ -70,19 +60,19 @@ unfolding offset_of place_of
 offset_upto F half kind n m upto = mul-le-mul_right F.width (omega arith)
 
 module _ (F : Form) (lawful : Lawful F) where
-  place_within : (half : Bool) (kind n : ℕ) → kind ≤ rally → n < F.room kind → place_of F half kind n + 1 ≤ 2 * F.places
+  place_within : (half : Bool) (kind n : ℕ) → kind ≤ rally → n < size_of kind → place_of F half kind n + 1 ≤ 2 * F.places
   unfolding place_of
   place_within true kind n known below = omega (arith, lawful.within kind known)
   place_within false kind n known below = omega (arith, lawful.within kind known)
 
-  pub offset_within : (half : Bool) (kind n : ℕ) → kind ≤ rally → n < F.room kind → offset_of F half kind n + F.width ≤ least F
+  pub offset_within : (half : Bool) (kind n : ℕ) → kind ≤ rally → n < size_of kind → offset_of F half kind n + F.width ≤ least F
   unfolding offset_of
   offset_within half kind n known below =
       let h : (place_of F half kind n + 1) * F.width ≤ 2 * F.places * F.width = mul-le-mul_right F.width (place_within half kind n known below) in
       omega (arith, h)
 
   -- ranges that overlap are of one kind
-  kind_same : (kind other n m : ℕ) → kind ≤ rally → other ≤ rally → n < F.room kind → m < F.room other → F.first kind + n ≡ F.first other + m → kind ≡ other
+  kind_same : (kind other n m : ℕ) → kind ≤ rally → other ≤ rally → n < size_of kind → m < size_of other → F.first kind + n ≡ F.first other + m → kind ≡ other
   kind_same kind other n m known known' below below' same = go (dec_lt kind other) (dec_lt other kind)
     where
       go : Dec (kind < other) → Dec (other < kind) → kind ≡ other
@@ -96,13 +86,13 @@ module _ (F : Form) (lawful : Lawful F) where
     pub same_kind : kind ≡ kind'
     pub same_number : n ≡ n'
 
-  in_half : (kind kind' n n' : ℕ) → kind ≤ rally → kind' ≤ rally → n < F.room kind → n' < F.room kind' → F.first kind + n ≡ F.first kind' + n'
+  in_half : (kind kind' n n' : ℕ) → kind ≤ rally → kind' ≤ rally → n < size_of kind → n' < size_of kind' → F.first kind + n ≡ F.first kind' + n'
       → (kind ≡ kind') × (n ≡ n')
   in_half kind kind' n n' known known' below below' same =
       let e : kind ≡ kind' = kind_same kind kind' n n' known known' below below' same in
       (e, omega (arith, ap F.first e))
 
-  pub place_injective : (half : Bool) (kind n : ℕ) (half' : Bool) (kind' n' : ℕ) → kind ≤ rally → kind' ≤ rally → n < F.room kind → n' < F.room kind'
+  pub place_injective : (half : Bool) (kind n : ℕ) (half' : Bool) (kind' n' : ℕ) → kind ≤ rally → kind' ≤ rally → n < size_of kind → n' < size_of kind'
       → place_of F half kind n ≡ place_of F half' kind' n' → SamePlace half kind n half' kind' n'
   unfolding place_of
   place_injective true kind n true kind' n' known known' below below' same =

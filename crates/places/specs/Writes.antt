@@ -7,7 +7,7 @@ use mathlib.Core.List.{List, [], ◌∷◌, ◌++◌}
 use Prim.Native.Nat.{ℕ, zero, suc, ◌+◌, ◌*◌, ◌≤◌, ◌<◌}
 use Rattle.std.proofs.Math.Decide.{dec_lt}
 use Rattle.std.proofs.Math.Nat.{mul-le-mul_right}
-use Rattle.rules.specs.Limits.{rally}
+use Rattle.rules.specs.Limits.{rally, size_of}
 use Rattle.rules.specs.Payload.{Bytes}
 use Rattle.rules.specs.Messages.{Item, item_of}
 use Rattle.places.specs.Part.{part, put, length_put, get_d_put_before, get_d_put_after, part_put_same, part_put_before, part_put_after}
@@ -27,7 +27,7 @@ pub data Elsewhere (half : Bool) (kind low high : ℕ) (half' : Bool) (kind' i :
 
 -- writes at the places from `low` on and below `high` of a kind and half leave every item elsewhere, every other number, and the length
 pub record Leaves (F : Form) (half : Bool) (kind low high : ℕ) (s s' : Store) : Type 0 where
-  pub items : (half' : Bool) (kind' i : ℕ) → kind' ≤ rally → i < F.room kind' → Elsewhere half kind low high half' kind' i → item_at F s' half' kind' i ≡ item_at F s half' kind' i
+  pub items : (half' : Bool) (kind' i : ℕ) → kind' ≤ rally → i < size_of kind' → Elsewhere half kind low high half' kind' i → item_at F s' half' kind' i ≡ item_at F s half' kind' i
   pub numbers : (i : ℕ) → (i < offset_of F half kind low) ⊎ (offset_of F half kind high ≤ i) → get_or s' i 0 ≡ get_or s i 0
   pub long : length s' ≡ length s
 
@@ -59,7 +59,7 @@ module _ (F : Form) (half : Bool) (kind : ℕ) where
       outside i (inr e) = inr (omega (arith, offset_upto F half kind high high' higher))
 
   -- of items that stand elsewhere, all
-  pub items_left : (low high : ℕ) (s s' : Store) → Leaves F half kind low high s s' → (half' : Bool) (kind' m : ℕ) → kind' ≤ rally → m ≤ F.room kind'
+  pub items_left : (low high : ℕ) (s s' : Store) → Leaves F half kind low high s s' → (half' : Bool) (kind' m : ℕ) → kind' ≤ rally → m ≤ size_of kind'
       → ((i : ℕ) → i < m → Elsewhere half kind low high half' kind' i) → items_in F s' half' kind' m ≡ items_in F s half' kind' m
   unfolding items_in
   items_left low high s s' a half' kind' zero known within away = refl
@@ -72,7 +72,7 @@ not_own true e = absurd (let z : ◌≡◌ {A = ℕ} 0 1 = cc in omega arith)
 not_own false e = absurd (let z : ◌≡◌ {A = ℕ} 0 1 = cc in omega arith)
 
 module _ (F : Form) (lawful : Lawful F) (store : Store) (long : least F ≤ length store) (v : List ℕ) (wide : length v ≡ F.width)
-    (half : Bool) (kind n : ℕ) (known : kind ≤ rally) (below : n < F.room kind) where
+    (half : Bool) (kind n : ℕ) (known : kind ≤ rally) (below : n < size_of kind) where
   fits : offset_of F half kind n + length v ≤ length store
   fits = omega (arith, offset_within F lawful half kind n known below)
 

@@ -9,14 +9,14 @@ ghost use Rattle.places.specs.Stored.{with_command};
 
 use limits::{FENCE, FLIGHT, FRAME_UNIT, ITEM_WORDS, JUMP, RALLY};
 
-const HALF_PLACES: u32 = 608;
+const HALF_PLACES: u32 = 352;
 
 // The most items that a plan of a kind has; 0 above the last kind.
 pub fn size_of(kind: u8) -> u16
     ensures { result ≡ size_of kind }
 {
     match kind {
-        FLIGHT => 512,
+        FLIGHT => 256,
         FENCE => 64,
         RALLY => 32,
         _ => 0,
@@ -28,8 +28,8 @@ fn first_place_of(kind: u8) -> u16
     ensures { result ≡ first_place_of kind }
 {
     match kind {
-        FENCE => 512,
-        RALLY => 576,
+        FENCE => 256,
+        RALLY => 320,
         _ => 0,
     }
 }

@@ -16,11 +16,11 @@ use Rattle.plan.specs.declared.Upload.{Upload}
 use Rattle.plan.specs.declared.Upload.TheVariants.{Idle, Running}
 use Rattle.places.specs.Part.{part}
 use Rattle.places.specs.Forms.{Store, Form, least, offset_of, item_at, items_in}
-use Rattle.places.specs.Places.{Ample, offset_within}
+use Rattle.places.specs.Places.{Lawful, offset_within}
 use Rattle.plan.specs.View.{plan_of, station_in, task_in, upload_in, view_in}
 use Rattle.refine.specs.Items.{len_ranged, next_below}
 
-module _ (F : Form) (ample : Ample F) where
+module _ (F : Form) (lawful : Lawful F) where
   part_front : (d e : Store) (at n : ℕ) → at + n ≤ length d → part (d ++ e) at n ≡ part d at n
   unfolding part
   part_front d e at n fits =
@@ -31,18 +31,18 @@ module _ (F : Form) (ample : Ample F) where
   items_front d e half k zero long known within = refl
   items_front d e half k (suc n) long known within =
       ap₂ (λ (l : List Bytes) (b : List ℕ). l ++ (F.stored b k n ∷ [])) (items_front d e half k n long known (omega arith))
-      (part_front d e (offset_of F half k n) F.width (omega (arith, offset_within F ample.lawful half k n known (omega (arith, ample.holds k)))))
+      (part_front d e (offset_of F half k n) F.width (omega (arith, offset_within F lawful half k n known (omega arith))))
 
   module _ (st : State) (lent rest : Store) (long : least F ≤ length lent) (ranged : in_range (view_in F st lent) ≡ true) where
     plan_front : (k : ℕ) → is_known k ≡ true → items_in F (lent ++ rest) (plan_of st k).half k (plan_of st k).len ≡ items_in F lent (plan_of st k).half k (plan_of st k).len
-    plan_front k known = items_front lent rest (plan_of st k).half k (plan_of st k).len long (leb-true k rally known) (len_ranged F ample st lent ranged k known)
+    plan_front k known = items_front lent rest (plan_of st k).half k (plan_of st k).len long (leb-true k rally known) (len_ranged F lawful st lent ranged k known)
 
     upload_front : (k : ℕ) → is_known k ≡ true → (u : Upload) → (plan_of st k).upload ≡ u → upload_in F (lent ++ rest) (not (plan_of st k).half) k u ≡ upload_in F lent (not (plan_of st k).half) k u
     unfolding upload_in
     upload_front k known Idle e = refl
     upload_front k known (Running r) e =
         ap (λ (l : List Bytes). running (record { station = station_in r; task = task_in r; next = r.next; taken = drop r.first l; started = r.started; repeats = r.repeats }))
-        (items_front lent rest (not (plan_of st k).half) k r.next long (leb-true k rally known) (let below = next_below F ample st lent ranged k known r e in omega arith))
+        (items_front lent rest (not (plan_of st k).half) k r.next long (leb-true k rally known) (let below = next_below F lawful st lent ranged k known r e in omega arith))
 
     pub view_front : view_in F st (lent ++ rest) ≡ view_in F st lent
     unfolding view_in

@@ -27,7 +27,7 @@ use Rattle.plan.specs.declared.Run.{Run}
 use Rattle.plan.specs.declared.Upload.{Upload}
 use Rattle.plan.specs.declared.Upload.TheVariants.{Idle, Running}
 use Rattle.places.specs.Forms.{Store, Form, least, items_in, length_items}
-use Rattle.places.specs.Places.{Ample}
+use Rattle.places.specs.Places.{Lawful}
 use Rattle.places.specs.Writes.{put_at, Elsewhere, other_half, other_kind, Leaves, leaves_both, leaves_wider, items_left, put_leaves, items_more, stored_item}
 use Rattle.places.specs.Carried.{filled, filled_leaves, part_whole}
 use Rattle.plan.specs.View.{plan_of, plan_in, run_in, upload_in, view_in, station_in, task_in}
@@ -42,7 +42,7 @@ use Rattle.refine.specs.After.{after_turn, after_item}
 use Rattle.refine.specs.Views.{plan_shown, upload_shown, length_shown, view_upload, view_renewed}
 use Rattle.refine.specs.Turned.{Agree, kept, ends}
 
-module _ (F : Form) (ample : Ample F) where
+module _ (F : Form) (lawful : Lawful F) where
   -- in range, seen from the state
   module _ (st : State) (s : Store) (ranged : in_range (view_in F st s) ≡ true) where
     pub len_ranged : (k : ℕ) → is_known k ≡ true → (plan_of st k).len ≤ size_of k
@@ -65,7 +65,7 @@ module _ (F : Form) (ample : Ample F) where
       (leaves : Leaves F (not (plan_of st k).half) k low high s s') where
     items_stay : (j : ℕ) → is_known j ≡ true → items_in F s' (plan_of st j).half j (plan_of st j).len ≡ items_in F s (plan_of st j).half j (plan_of st j).len
     items_stay j known' =
-        items_left F (not (plan_of st k).half) k low high s s' leaves (plan_of st j).half j (plan_of st j).len (leb-true j rally known') (omega (arith, len_ranged st s ranged j known', ample.holds j))
+        items_left F (not (plan_of st k).half) k low high s s' leaves (plan_of st j).half j (plan_of st j).len (leb-true j rally known') (len_ranged st s ranged j known')
         (λ i below. away i (ℕ_discrete j k))
       where
         away : (i : ℕ) → Dec (j ≡ k) → Elsewhere (not (plan_of st k).half) k low high (plan_of st j).half j i
@@ -78,7 +78,7 @@ module _ (F : Form) (ample : Ample F) where
     uploads_elsewhere j known' other (Running q) e =
         ap (λ (l : List Bytes). running (record { station = station_in q; task = task_in q; next = q.next; taken = drop q.first l; started = q.started; repeats = q.repeats }))
         (items_left F (not (plan_of st k).half) k low high s s' leaves (not (plan_of st j).half) j q.next (leb-true j rally known')
-        (let below = next_below st s ranged j known' q e in omega (arith, ample.holds j)) (λ i below. other_kind other))
+        (let below = next_below st s ranged j known' q e in omega arith) (λ i below. other_kind other))
 
     pub shown_stays : (view_in F st s').shown ≡ (view_in F st s).shown
     unfolding view_in
@@ -130,17 +130,11 @@ module _ (F : Form) (ample : Ample F) where
     below : r.next < size_of k
     below = next_below st s ranged k known r running-it
 
-    held : r.next < F.room k
-    held = omega (arith, below, ample.holds k)
-
     ranges : RunRanges k (plan_of st k).len (run_in F s other k r)
     ranges = run_ranged_lem st s ranged k known r running-it
 
-    most : r.count ≤ F.room k
-    most = omega (arith, ranges.most, ample.holds k)
-
     pub written : Leaves F other k r.next (r.next + 1) s s'
-    written = put_leaves F ample.lawful s long (F.keeps item) (ample.lawful.wide item) other k r.next small held
+    written = put_leaves F lawful s long (F.keeps item) (lawful.wide item) other k r.next small below
 
     long' : least F ≤ length s'
     long' = omega (arith, written.long)
@@ -160,7 +154,7 @@ module _ (F : Form) (ample : Ample F) where
         go : Leaves F other k 0 r.count s s' → (b : Bool) → r.partial ≡ b → Leaves F other k 0 r.count s (cond b (filled F s' (plan_of st k).half k (task_in r)) s')
         go all true part =
             leaves_both F other k 0 r.count s s' (filled F s' (plan_of st k).half k (task_in r)) all
-            (filled_leaves F ample.lawful (plan_of st k).half k small s' long' (task_in r) r.next (plan_of st k).len ranges.task most)
+            (filled_leaves F lawful (plan_of st k).half k small s' long' (task_in r) r.next (plan_of st k).len ranges.task ranges.most)
         go all false part = all
 
     abbrev run : model.Run
@@ -174,8 +168,8 @@ module _ (F : Form) (ample : Ample F) where
       more : items_in F s' other k (r.next + 1) ≡ items_in F s other k r.next ++ (item_of item ∷ [])
       more =
           rw add-one
-          (items_more F ample.lawful s long (F.keeps item) (ample.lawful.wide item) other k r.next small held
-          ∙ ap (λ (b : Bytes). items_in F s other k r.next ++ (b ∷ [])) (stored_item F ample.lawful item k r.next of_kind numbered))
+          (items_more F lawful s long (F.keeps item) (lawful.wide item) other k r.next small below
+          ∙ ap (λ (b : Bytes). items_in F s other k r.next ++ (b ∷ [])) (stored_item F lawful item k r.next of_kind numbered))
 
       taken_more : drop r.first (items_in F s' other k (r.next + 1)) ≡ got
       taken_more =
@@ -193,7 +187,7 @@ module _ (F : Form) (ample : Ample F) where
           go : (b : Bool) → r.partial ≡ b → items_in F (cond r.partial (filled F s' (plan_of st k).half k (task_in r)) s') other k r.count ≡ whole (task_in r) old got
           go true part =
               ap (λ (b : Bool). items_in F (cond b (filled F s' (plan_of st k).half k (task_in r)) s') other k r.count) part
-              ∙ part_whole F ample.lawful (plan_of st k).half k small s' long' (task_in r) r.next (plan_of st k).len ranges.task most part
+              ∙ part_whole F lawful (plan_of st k).half k small s' long' (task_in r) r.next (plan_of st k).len ranges.task ranges.most part
               ∙ ap₂ (whole (task_in r)) (items_stay st s s' ranged k known r.next (r.next + 1) written k known)
               (ap (λ (n : ℕ). drop r.first (items_in F s' other k (n + 1))) (sym last) ∙ taken_more)
           go false all =

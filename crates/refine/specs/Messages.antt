@@ -19,7 +19,7 @@ use Rattle.rule_laws.specs.Kinds.{covered_known}
 use Rattle.rule_laws.specs.Brought.{OfItsKind}
 use Rattle.plan.specs.declared.State.{State}
 use Rattle.places.specs.Forms.{Store, Form, least, item_at, items_at}
-use Rattle.places.specs.Places.{Ample}
+use Rattle.places.specs.Places.{Lawful}
 use Rattle.plan.specs.View.{empty_plan, plan_of, view_in}
 use Rattle.upload.specs.declared.Say.TheVariants.{Silent}
 use Rattle.upload.specs.declared.Effect.TheVariants.{Nothing, Renews, EmptiesAll, Chooses}
@@ -32,7 +32,7 @@ use Rattle.refine.specs.Views.{plan_shown, upload_shown, length_shown}
 use Rattle.refine.specs.Turned.{Agree, others_shown, empties, count_agrees, part_agrees, ack_agrees}
 use Rattle.refine.specs.Items.{item_agrees}
 
-module _ (F : Form) (ample : Ample F) where
+module _ (F : Form) (lawful : Lawful F) where
   -- ---- clears
 
   others_agree : (st : State) (s : Store) (from : Station) (ks : List ℕ) → every is_known ks ≡ true → any_others (view_in F st s) from ks ≡ others_among st.plans from ks
@@ -174,7 +174,7 @@ module _ (F : Form) (ample : Ample F) where
       known_agrees clears ok of_kind = clear_agrees from k ok
       known_agrees (acknowledges result) ok of_kind = any_ack_agrees from k result
       known_agrees (asks_item seq) ok of_kind = request_agrees from k seq ok
-      known_agrees (brings item) ok of_kind = item_agrees F ample st s three long ranged k ok from now item of_kind
+      known_agrees (brings item) ok of_kind = item_agrees F lawful st s three long ranged k ok from now item of_kind
 
       pub message_agrees : (r : Request) → OfItsKind k r → Agree F (after_message F st s from now k r) (on_message (view_in F st s) from now k r)
       unfolding message_done on_message

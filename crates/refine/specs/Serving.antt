@@ -17,7 +17,7 @@ use Rattle.rule_laws.specs.ReadBack.{replies_read}
 use Rattle.rule_laws.specs.Heard.{HeardFits, heard_fits}
 use Rattle.rule_laws.specs.Refused.{Room, none, enough, room_or_refused}
 use Rattle.places.specs.Forms.{Store, Form, least}
-use Rattle.places.specs.Places.{Ample}
+use Rattle.places.specs.Places.{Lawful}
 use Rattle.plan.specs.declared.State.{State}
 use Rattle.plan.specs.View.{plan_of, view_in}
 use Rattle.upload.specs.declared.Effect.{Effect}
@@ -29,7 +29,7 @@ use Rattle.refine.specs.After.{After, gives, after_message, after_timer}
 use Rattle.refine.specs.Promise.{Result, Serves, half_of, LentIn, spare}
 use Rattle.refine.specs.Steps.{Steps, refused_steps, message_steps, timer_steps, done_steps}
 
-module _ (F : Form) (ample : Ample F) where
+module _ (F : Form) (lawful : Lawful F) where
   -- a result that gives the step's state and answer
   pub record Gives (d : After) (s' : Store) (b b' : Bytes) (r : Result State) : Type 0 where
     pub state : r.state ≡ d.state
@@ -42,7 +42,7 @@ module _ (F : Form) (ample : Ample F) where
     pub reads : ReadsBack d.answer r.id (take r.len b')
 
   pub steps_serve :
-      (c : Call) (st : State) (s s' : Store) (b b' : Bytes) (d : After) (r : Result State) → Steps F ample c st s d → Gives d s' b b' r
+      (c : Call) (st : State) (s s' : Store) (b b' : Bytes) (d : After) (r : Result State) → Steps F lawful c st s d → Gives d s' b b' r
       → Serves State (view_in F) half_of (spare F) c st s s' b b' r
   steps_serve c st s s' b b' d r steps gives-it =
       let said = steps.answer in
@@ -119,15 +119,15 @@ module _ (F : Form) (ample : Ample F) where
   -- the code's step keeps the promise, whatever is heard
   done_by_steps :
       (c : Call) (st : State) (s : Store) → Three st → in_range (view_in F st s) ≡ true → least F ≤ length s → CallFits c → (h : Heard)
-      → heard (in_range (view_in F st s)) c ≡ h → Steps F ample c st s (done_by st s h)
+      → heard (in_range (view_in F st s)) c ≡ h → Steps F lawful c st s (done_by st s h)
   unfolding done_by advance
-  done_by_steps c st s three ranged long call (refuses outcome) e = refused_steps F ample c st s outcome e
-  done_by_steps c st s three ranged long call (request from now k r) e = message_steps F ample c st s three ranged long from now k r e
+  done_by_steps c st s three ranged long call (refuses outcome) e = refused_steps F lawful c st s outcome e
+  done_by_steps c st s three ranged long call (request from now k r) e = message_steps F lawful c st s three ranged long from now k r e
   done_by_steps c st s three ranged long call (expiry now k) e =
-      timer_steps F ample c st s three ranged now k (subst HeardFits e (heard_fits (in_range (view_in F st s)) c call)).0 e
+      timer_steps F lawful c st s three ranged now k (subst HeardFits e (heard_fits (in_range (view_in F st s)) c call)).0 e
   done_by_steps c st s three ranged long call command_done e =
       let f = next (view_in F st s).shown in
-      done_steps F ample c st s three ranged (reached f st) (reached_view st s f) (reached_plans st f) e
+      done_steps F lawful c st s three ranged (reached f st) (reached_view st s f) (reached_plans st f) e
 
   -- a result of a call, with the store and the buffer after it
   pub record Kept (c : Call) (st : State) (s : Store) (b : Bytes) : Type 0 where
@@ -139,7 +139,7 @@ module _ (F : Form) (ample : Ample F) where
 
   -- what a step gives is a result; a refusal has no reply, and what is said reads back where the model and the call fit
   given :
-      (c : Call) (st : State) (s : Store) (b : Bytes) (d : After) → Three d.state → Steps F ample c st s d → ReadsBack d.answer (reply_id d.answer) (reply_bytes d.answer)
+      (c : Call) (st : State) (s : Store) (b : Bytes) (d : After) → Three d.state → Steps F lawful c st s d → ReadsBack d.answer (reply_id d.answer) (reply_bytes d.answer)
       → Kept c st s b
   given c st s b d three steps reads =
       let bytes = reply_bytes d.answer in
@@ -172,7 +172,7 @@ module _ (F : Form) (ample : Ample F) where
   result_exists c st s b three lent call fits = go (room_or_refused (in_range (view_in F st s)) c)
     where
       go : Room (in_range (view_in F st s)) c → Kept c st s b
-      go (none outcome e) = given c st s b (gives st s (refused outcome)) three (refused_steps F ample c st s outcome e) tt
+      go (none outcome e) = given c st s b (gives st s (refused outcome)) three (refused_steps F lawful c st s outcome e) tt
       go (enough ranged long) =
           let h = heard (in_range (view_in F st s)) c in
           let room : least F ≤ length s = ltb-false (length s) (least F) (lent ∙ le-ltb (store_lent c) store_words long) in

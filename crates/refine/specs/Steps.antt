@@ -25,7 +25,7 @@ use Rattle.plan.specs.declared.Run.{Run}
 use Rattle.plan.specs.declared.Upload.{Upload}
 use Rattle.plan.specs.declared.Upload.TheVariants.{Idle, Running}
 use Rattle.places.specs.Forms.{Store, Form, least, offset_of}
-use Rattle.places.specs.Places.{Ample}
+use Rattle.places.specs.Places.{Lawful}
 use Rattle.places.specs.Writes.{Leaves}
 use Rattle.places.specs.Carried.{filled}
 use Rattle.plan.specs.View.{empty_plan, plan_of, view_in, station_in, task_in}
@@ -43,7 +43,7 @@ use Rattle.refine.specs.Items.{written, settled_leaves}
 use Rattle.refine.specs.Messages.{unknown_turn, message_agrees}
 use Rattle.refine.specs.Promise.{number_of, half_of, in_places, fills_up, spare_in, spare_at, spare}
 
-module _ (F : Form) (ample : Ample F) where
+module _ (F : Form) (lawful : Lawful F) where
   -- ---- halves
 
   -- a plan's half turns over exactly where its number moved
@@ -231,7 +231,7 @@ module _ (F : Form) (ample : Ample F) where
       more_beside e =
           own_beside (stored F s k p r item)
           (subst (λ (b : Bool). Leaves F (not p.half) k (cond b 0 r.next) (cond b r.count (r.next + 1)) s (stored F s k p r item))
-          (sym (fills_not e)) (written F ample st s long ranged k known r runs item))
+          (sym (fills_not e)) (written F lawful st s long ranged k known r runs item))
 
       -- the last, and valid
       last_beside : eqb r.next r.last ≡ true → eqb (item_verdict F st.home s k p r item) accepted ≡ true → Beside s (spare_in F st.home p k (Running r) from item) (settled F (stored F s k p r item) k p r)
@@ -242,11 +242,11 @@ module _ (F : Form) (ample : Ample F) where
               → Leaves F (not p.half) k (cond (fills_up F st.home k r item) 0 r.next) (cond (fills_up F st.home k r item) r.count (r.next + 1)) s (settled F (stored F s k p r item) k p r)
           go true part =
               subst (λ (b : Bool). Leaves F (not p.half) k (cond b 0 r.next) (cond b r.count (r.next + 1)) s (settled F (stored F s k p r item) k p r))
-              (sym (fills e valid part)) (settled_leaves F ample st s long ranged k known r runs item)
+              (sym (fills e valid part)) (settled_leaves F lawful st s long ranged k known r runs item)
           go false all =
               subst (λ (b : Bool). Leaves F (not p.half) k (cond b 0 r.next) (cond b r.count (r.next + 1)) s (settled F (stored F s k p r item) k p r)) (sym (fills_whole all))
               (subst (λ (b : Bool). Leaves F (not p.half) k r.next (r.next + 1) s (cond b (filled F (stored F s k p r item) p.half k (task_in r)) (stored F s k p r item))) (sym all)
-              (written F ample st s long ranged k known r runs item))
+              (written F lawful st s long ranged k known r runs item))
 
     item_beside :
         (u : Upload) → (plan_of st k).upload ≡ u → (from : Station) (now : ℕ) (item : Item)
@@ -278,7 +278,7 @@ module _ (F : Form) (ample : Ample F) where
       where
         go : (t : Bool) → is_known k ≡ t → EffectOk k (plan_of st k) (ack_turned (plan_of st k) from result).effect
         go true known = ack_ok k known (plan_of st k) from result
-        go false e = subst (λ (t : Turned). EffectOk k (plan_of st k) t.effect) (sym (unknown_turn F ample st s three from k result e)) tt
+        go false e = subst (λ (t : Turned). EffectOk k (plan_of st k) t.effect) (sym (unknown_turn F lawful st s three from k result e)) tt
 
     clear_effect_lem : kind_ok k clears ≡ true → EffectOk k (plan_of st k) (clear_effect st.plans k)
     unfolding kind_ok
@@ -387,7 +387,7 @@ module _ (F : Form) (ample : Ample F) where
         → Steps c st s (after_message F st s from now k r)
     unfolding act
     message_steps long from now k r e =
-        heard_steps c st s (request from now k r) (after_message F st s from now k r) ranged e (message_agrees F ample st s three long ranged from now k r (request_kind (in_range (view_in F st s)) c e))
+        heard_steps c st s (request from now k r) (after_message F st s from now k r) ranged e (message_agrees F lawful st s three long ranged from now k r (request_kind (in_range (view_in F st s)) c e))
         (message_halves st s three long ranged from now k r) (message_answered (view_in F st s) from now k r) (message_beside st s three long ranged from now k r)
 
     -- a timer call that is not refused

@@ -110,11 +110,13 @@ stored_says i =
     ∙ item_reads_back (cut i)
     (omega arith, (omega arith, (omega arith, (omega arith, (omega arith, (omega arith, (omega arith, (omega arith, (omega arith, (omega arith, (omega arith, (omega arith, (omega arith, (omega arith, (omega arith, tt)))))))))))))))
 
--- the words of a stored item, at its own place, are that stored item
-pub stored_again :
-    (i : Item) (kind n : ℕ) → kind < byte_values → n < byte_values ^ 2 → i.kind ≡ kind → i.seq ≡ n → item_of (item_of_words (words_of (item_in (item_of i))) kind n) ≡ item_of i
-stored_again i kind n hk hn of_kind numbered =
+-- the words of the stored item that words are, at the same place, are that stored item
+pub words-again :
+    (w : List ℕ) (kind n : ℕ) → kind < byte_values → n < byte_values ^ 2
+    → item_of (item_of_words (words_of (item_in (item_of (item_of_words w kind n)))) kind n) ≡ item_of (item_of_words w kind n)
+words-again w kind n hk hn =
+    let i = item_of_words w kind n in
     ap (λ (j : Item). item_of (item_of_words (words_of j) kind n)) (stored_says i)
-    ∙ ap₂ (λ (k s : ℕ). item_of (item_of_words (words_of (cut i)) k s)) (sym (ap (λ (k : ℕ). k % byte_values) of_kind ∙ mod-eq_of_lt hk)) (sym (ap (λ (s : ℕ). s % frame_unit) numbered ∙ mod-eq_of_lt hn))
+    ∙ ap₂ (λ (k s : ℕ). item_of (item_of_words (words_of (cut i)) k s)) (sym (mod-eq_of_lt hk)) (sym (mod-eq_of_lt hn))
     ∙ words_kept (cut i)
     ∙ stored_cut i

@@ -6,8 +6,7 @@ pub mod Bounds
 pub mod Words
 pub mod Partial
 pub mod Home
-pub mod Orchards
-use Rattle.std.specs.Prelude.{ℕ, zero, suc, ◌≡◌, refl, List, [], ◌∷◌, map, true, false, replicate}
+use Rattle.std.specs.Prelude.{ℕ, ◌≡◌, refl, List, [], ◌∷◌, map, true, false, replicate}
 use Rattle.std.proofs.Common.{◌∙◌}
 use Rattle.std.specs.Float.Ieee.{of_bits}
 use Rattle.rules.specs.Limits.{store_words, reply_bytes_min, flight, fence}
@@ -189,11 +188,6 @@ land seq = item_as flight 21 seq 0 0 0
 abbrev pub jump_to : (seq target repeat : ℕ) → Item
 jump_to seq target repeat = item_as flight 177 seq target repeat 0
 
--- n jumps to item 0, from a number on
-abbrev pub jumps_from : (from n : ℕ) → List Item
-jumps_from from zero = []
-jumps_from from (suc n) = jump_to from 0 0 ∷ jumps_from (suc from) n
-
 abbrev pub vertex : (seq m : ℕ) → Item
 vertex seq m = item_as fence 5001 seq m 0 0
 
@@ -207,7 +201,7 @@ plan_with items n = record { items = map item_of items; number = n }
 
 -- what is shown with these plans, without the setting; nothing begun
 abbrev pub plans_of : Plan → Plan → Plan → Shown
-plans_of a b c = record { plans = a ∷ b ∷ c ∷ []; current = 0; begun = false; counts = replicate 100 0; home = false }
+plans_of a b c = record { plans = a ∷ b ∷ c ∷ []; current = 0; begun = false; counts = replicate 15 0; home = false }
 
 -- no upload runs
 abbrev pub resting : Shown → Model
@@ -220,7 +214,7 @@ with_flight items n = resting (plans_of (plan_with items n) (plan_with [] 0) (pl
 -- two waypoints are stored, the first is begun, and one jump count is not 0
 abbrev pub flying : Model
 flying =
-    resting (record { plans = plan_with (waypoint 0 ∷ waypoint 1 ∷ []) 3 ∷ plan_with [] 0 ∷ plan_with [] 0 ∷ []; current = 0; begun = true; counts = 9 ∷ replicate 99 0; home = false })
+    resting (record { plans = plan_with (waypoint 0 ∷ waypoint 1 ∷ []) 3 ∷ plan_with [] 0 ∷ plan_with [] 0 ∷ []; current = 0; begun = true; counts = 9 ∷ replicate 14 0; home = false })
 
 -- ---- uploads and their answers
 

@@ -18,17 +18,17 @@ every_kind = 255
 abbrev pub kinds : List ℕ
 kinds = flight ∷ fence ∷ rally ∷ []
 
--- ---- sizes: (M-110) "Flight plans up to 512 items and 100 jump items"; "fence 64, rally 32; .. 5 repeats; 250 ms; 64 jumps followed in one search"
+-- ---- sizes: "flight 256 items, fence 64, rally 32; 15 jump items in a flight plan; 5 repeats; 250 ms; 64 jumps followed in one search"
 
 abbrev pub sizes : List ℕ
-sizes = 512 ∷ 64 ∷ 32 ∷ []
+sizes = 256 ∷ 64 ∷ 32 ∷ []
 
 -- the most items that a plan of a kind has
 abbrev pub size_of : ℕ → ℕ
 size_of kind = get_or sizes kind 0
 
 abbrev pub max_jumps : ℕ
-max_jumps = 100
+max_jumps = 15
 
 abbrev pub max_repeats : ℕ
 max_repeats = 5
@@ -39,7 +39,7 @@ expiry_ms = 250
 abbrev pub max_followed : ℕ
 max_followed = 64
 
--- ---- the store: (M-110) "The store grows to 9,728 words (2 x 608 x 8), fence from item place 512, rally from 576"; "Either half has flight from item place 0"
+-- ---- the store: "The store is 5,632 words (2 x 352 x 8)" (M-106); "Either half has flight from item place 0, fence from 256, rally from 320"
 
 -- "payload 73, all 38 bytes"
 abbrev pub item_bytes : ℕ
@@ -50,10 +50,10 @@ abbrev pub item_words : ℕ
 item_words = 8
 
 abbrev pub half_places : ℕ
-half_places = 608
+half_places = 352
 
 abbrev pub first_places : List ℕ
-first_places = 0 ∷ 512 ∷ 576 ∷ []
+first_places = 0 ∷ 256 ∷ 320 ∷ []
 
 -- the item place at which a kind begins, in either half
 abbrev pub first_place_of : ℕ → ℕ

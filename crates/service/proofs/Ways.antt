@@ -21,7 +21,7 @@ use Rattle.plan.specs.declared.State.{State}
 use Rattle.plan.specs.declared.Plan.{Plan}
 use Rattle.rule_laws.specs.Brought.{request_kind}
 use Rattle.places.specs.Forms.{Store, words}
-use Rattle.places.specs.Places.{words_ample}
+use Rattle.places.specs.Places.{words_lawful}
 use Rattle.plan.specs.View.{empty_plan, plan_of, view, fresh_state}
 use Rattle.ranges.specs.Ranges.{plans_ranged, all_ranged, in_range_lem}
 use Rattle.ranges.specs.Ranged.{plans_ranged_lem}
@@ -135,9 +135,9 @@ module _ (st : State) (s : Store) (b : Bytes) (own from : Station) (id : ℕ) (p
 
   message_serves : (e : Effect) → h.effect ≡ e → Serves c st s s' b b' (served_result (served (applied st k e) h))
   message_serves e is =
-      let agree = message_agrees words words_ample st s taken.three taken.long taken.ranges from clock k q (request_kind (in_range (view st s)) c taken.says) in
+      let agree = message_agrees words words_lawful st s taken.three taken.long taken.ranges from clock k q (request_kind (in_range (view st s)) c taken.says) in
       applied_serves c st s s' b b' k (message_done words st.home st.plans st.current s from clock k q) h
-      (message_steps words words_ample c st s taken.three taken.ranges taken.long from clock k q taken.says)
+      (message_steps words words_lawful c st s taken.three taken.ranges taken.long from clock k q taken.says)
       (ap command_in agree.answer ∙ plain_stuck (on_message (view st s) from clock k q).answer (message_plain (view st s) from clock k q))
       done_by_lem e is
 
@@ -157,8 +157,8 @@ module _ (st : State) (s : Store) (b : Bytes) (own from : Station) (id : ℕ) (p
       (message_serves EmptiesAll is))
 
   -- a plan that is put in is of a known kind, and stands at its place
-  effect_ok : (e : Effect) → h.effect ≡ e → EffectOk words words_ample k (plan_of st k) e
-  effect_ok e is = subst (EffectOk words words_ample k (plan_of st k)) (sym done_by_lem.handles.effect ∙ is) (message_effect words words_ample st s taken.three taken.long taken.ranges from clock k q)
+  effect_ok : (e : Effect) → h.effect ≡ e → EffectOk words words_lawful k (plan_of st k) e
+  effect_ok e is = subst (EffectOk words words_lawful k (plan_of st k)) (sym done_by_lem.handles.effect ∙ is) (message_effect words words_lawful st s taken.three taken.long taken.ranges from clock k q)
 
   module _ (place : ℕ) (stands : k ≤ rally → place ≡ k) (plan : Plan) where
     pub message_turns : h.effect ≡ Turns plan → Serves c st s s' b b' (served_result (served (turned_state st place plan) h))

@@ -76,12 +76,13 @@ pub fn fetch(store: &[u32], kind: u8, half: bool, n: u16) -> Item
     item_in(&store[at..end], kind, n)
 }
 
-// The eight words that an item is kept as.
-pub fn words_of(item: Item) -> [u32; ITEM_WORDS]
-    ensures { result ≡ words_of (patterns item) }
+// The item becomes the one with a number, and is fetched from there as it was kept, with the number and the kind of the place; every other word of the store stays.
+pub fn keep(store: &mut [u32], kind: u8, half: bool, n: u16, item: Item)
+    requires { (store_words ≤ length store.old) × (kind ≤ rally) × (n < size_of kind) }
+    ensures { (store.new ≡ put_at words store.old half kind n (words_of (patterns item))) × (item_in (item_at words store.new half kind n) ≡ at_place kind n (patterns item)) }
 {
     let last = last_word(item.command, item.frame, item.autocontinue);
-    [
+    let kept = [
         item.bits1,
         item.bits2,
         item.bits3,
@@ -90,20 +91,12 @@ pub fn words_of(item: Item) -> [u32; ITEM_WORDS]
         item.bits_y,
         item.bits_z,
         last,
-    ]
-}
-
-// The item becomes the one with a number, and is fetched from there as it was kept, with the number and the kind of the place; every other word of the store stays.
-pub fn keep(store: &mut [u32], kind: u8, half: bool, n: u16, item: Item)
-    requires { (store_words ≤ length store.old) × (kind ≤ rally) × (n < size_of kind) }
-    ensures { (store.new ≡ put_at words store.old half kind n (words_of (patterns item))) × (item_in (item_at words store.new half kind n) ≡ at_place kind n (patterns item)) }
-{
-    let kept = words_of(item);
+    ];
     put_item(store, place_at(kind, half, n), kept);
 }
 
 // The eight words from `at`.
-pub fn words_at(store: &[u32], at: usize) -> [u32; ITEM_WORDS]
+fn words_at(store: &[u32], at: usize) -> [u32; ITEM_WORDS]
     requires { at + item_words ≤ length store.now }
     ensures { result ≡ part store.now at item_words }
 {

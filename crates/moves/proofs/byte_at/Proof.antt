@@ -5,8 +5,8 @@ use Rattle.places.specs.Forms.{offset_of, place_of}
 use Rattle.moves.proofs.byte_at.Statement.{statement}
 use Rattle.moves.proofs.byte_at.Tie as tie
 
-place-before-requires : tie.Need-place-before-requires
-place-before-requires c κs = search rules
+item-place-requires : tie.Need-item-place-requires
+item-place-requires c κs = search rules
 
 cast-result : tie.Need-overflow-cast-result
 cast-result c = search rules
@@ -19,4 +19,4 @@ unfolding offset_of place_of
 returns c = omega arith
 
 pub byte-at-spec : {M : Type 1} → statement M
-byte-at-spec = tie.close (tie.spec place-before-requires cast-result mul-result returns)
+byte-at-spec = tie.close (tie.spec item-place-requires cast-result mul-result returns)

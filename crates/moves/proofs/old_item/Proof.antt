@@ -9,15 +9,14 @@ use Rattle.rules.specs.Messages.{item_in}
 use Rattle.item.specs.declared.Item.{Item}
 use Rattle.item.specs.Patterns.{item_for}
 use Rattle.places.specs.Part.{part}
-use Rattle.places.specs.Forms.{Store, offset_of, item_at}
-use Rattle.places.specs.Places.{offset_within}
-use Rattle.before.specs.Stores.{bytes_before, bytes_before_lawful}
+use Rattle.places.specs.Forms.{Store, bytes, offset_of, item_at}
+use Rattle.places.specs.Places.{bytes_lawful, offset_within}
 use borrow.Author.Rules.{rules}
 use Rattle.moves.proofs.old_item.Statement.{statement}
 use Rattle.moves.proofs.old_item.Tie as tie
 
-read_there : (store : Store) (half : Bool) (kind n at : ℕ) (i : Item) → at ≡ offset_of bytes_before half kind n
-    → i ≡ item_for (item_in (take (at + item_bytes - at) (drop at store))) → i ≡ item_for (item_in (item_at bytes_before store half kind n))
+read_there : (store : Store) (half : Bool) (kind n at : ℕ) (i : Item) → at ≡ offset_of bytes half kind n
+    → i ≡ item_for (item_in (take (at + item_bytes - at) (drop at store))) → i ≡ item_for (item_in (item_at bytes store half kind n))
 unfolding item_at part
 read_there store half kind n at i place read =
     let size : at + item_bytes - at ≡ item_bytes = omega arith in
@@ -31,7 +30,7 @@ byte-at-requires c κs = search rules
 add-end : tie.Need-overflow-add-end
 add-end c =
     let a = c.before.before.args in
-    omega (arith, offset_within bytes_before bytes_before_lawful a.half a.kind a.n (search rules) (search rules))
+    omega (arith, offset_within bytes bytes_lawful a.half a.kind a.n (search rules) (search rules))
 
 sub-item-at : tie.Need-overflow-sub-item-at
 sub-item-at c = search rules
@@ -42,7 +41,7 @@ part-item-at-start c = search rules
 part-item-at-end : tie.Need-slice-bounds-item-at-end
 part-item-at-end c =
     let a = c.before.before.args in
-    omega (arith, offset_within bytes_before bytes_before_lawful a.half a.kind a.n (search rules) (search rules))
+    omega (arith, offset_within bytes bytes_lawful a.half a.kind a.n (search rules) (search rules))
 
 item-at-requires : tie.Need-item-at-requires
 item-at-requires c κs = search rules

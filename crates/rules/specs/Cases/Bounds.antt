@@ -80,7 +80,7 @@ uploading kind n taken repeats =
 -- a flight plan of this length, at an item, with its first and its last jump count
 abbrev at_item : (length current first last : ℕ) → Model
 at_item n current first last =
-    resting (record { plans = plan_of_length n ∷ plan_of_length 0 ∷ plan_of_length 0 ∷ []; current = current; begun = false; counts = first ∷ replicate 98 0 ++ (last ∷ []); home = false })
+    resting (record { plans = plan_of_length n ∷ plan_of_length 0 ∷ plan_of_length 0 ∷ []; current = current; begun = false; counts = first ∷ replicate 13 0 ++ (last ∷ []); home = false })
 
 -- what a REQUEST_LIST of flight gets
 abbrev listed : Model → Answer
@@ -166,23 +166,23 @@ bounds =
     ∷ (commands (ordered (with_flight (looping f2) 1) (replicate 4 finishes)) is commands (fly 0 ∷ fly 0 ∷ fly 0 ∷ fly 2 ∷ []))
     ∷ (commands (ordered (with_flight (looping 0) 1) (replicate 3 finishes)) is commands (fly 0 ∷ fly 2 ∷ finished ∷ []))
     ∷ (commands (ordered (with_flight (looping f_minus_one) 1) (replicate 4 finishes)) is commands (replicate 4 (fly 0)))
-    ∷ (numbers (run (with_flight (looping f_na_n) 1) (finishes ∷ [])).shown.counts is numbers (replicate 100 0))
-    ∷ (numbers (run (with_flight (looping f_na_n) 1) (replicate 2 finishes)).shown.counts is numbers (1 ∷ replicate 99 0))
-    ∷ (numbers (run (with_flight (looping f_na_n) 1) (replicate 4 finishes)).shown.counts is numbers (1 ∷ replicate 99 0))
+    ∷ (numbers (run (with_flight (looping f_na_n) 1) (finishes ∷ [])).shown.counts is numbers (replicate 15 0))
+    ∷ (numbers (run (with_flight (looping f_na_n) 1) (replicate 2 finishes)).shown.counts is numbers (1 ∷ replicate 14 0))
+    ∷ (numbers (run (with_flight (looping f_na_n) 1) (replicate 4 finishes)).shown.counts is numbers (1 ∷ replicate 14 0))
     -- an upload with it completes, and the item comes back as it was sent; an infinity as a repeat, which a host wrote, is Stuck
     ∷ (answer (after (fresh false) (uploads flight 3 (waypoint 0 ∷ jump_to 1 0 0xff800001 ∷ [])) (sends_item tablet 0 (waypoint 2))) is answer (says (ack tablet 0 0 1)))
     ∷ (answer (after (fresh false) (uploads flight 3 (looping 0xff800001)) (asks_for_item tablet flight 1)) is answer (says (item_int tablet 0 (jump_to 1 0 0xff800001))))
     ∷ (commands (ordered (with_flight (looping 0x7f800000) 1) (replicate 2 finishes)) is commands (fly 0 ∷ stuck ∷ []))
     -- outcome 15: a plan's length
-    ∷ (answer (listed (lengths 512 64 32)) is answer (says (count tablet 512 0 1)))
-    ∷ (answer (listed (lengths 513 0 0)) is answer (refused 15))
+    ∷ (answer (listed (lengths 256 64 32)) is answer (says (count tablet 256 0 1)))
+    ∷ (answer (listed (lengths 257 0 0)) is answer (refused 15))
     ∷ (answer (listed (lengths 0 65 0)) is answer (refused 15))
     ∷ (answer (listed (lengths 0 0 33)) is answer (refused 15))
     -- outcome 15: an upload's count, of each kind
     ∷ (answer (listed (uploading flight 0 0 0)) is answer (refused 15))
     ∷ (answer (listed (uploading flight 1 0 0)) is answer (says (count tablet 0 0 0)))
-    ∷ (answer (listed (uploading flight 512 0 0)) is answer (says (count tablet 0 0 0)))
-    ∷ (answer (listed (uploading flight 513 0 0)) is answer (refused 15))
+    ∷ (answer (listed (uploading flight 256 0 0)) is answer (says (count tablet 0 0 0)))
+    ∷ (answer (listed (uploading flight 257 0 0)) is answer (refused 15))
     ∷ (answer (listed (uploading fence 64 0 0)) is answer (says (count tablet 0 0 0)))
     ∷ (answer (listed (uploading fence 65 0 0)) is answer (refused 15))
     ∷ (answer (listed (uploading rally 32 0 0)) is answer (says (count tablet 0 0 0)))

@@ -21,7 +21,7 @@ text =
     ∷ 0 ∷ 0 ∷ 0 ∷ 0 ∷ 0 ∷ 0 ∷ 0 ∷ 0 ∷ 0 ∷ 0 ∷ 0 ∷ 0 ∷ 0 ∷ 0 ∷ 0 ∷ 0 ∷ 0 ∷ 0 ∷ 0 ∷ 0 ∷ 0 ∷ 0 ∷ 0 ∷ 0 ∷ 0 ∷ 0 ∷ 0 ∷ 0 ∷ 0 ∷ 0 ∷ []
 
 abbrev no_runs : List ℕ
-no_runs = replicate 100 0
+no_runs = 0 ∷ 0 ∷ 0 ∷ 0 ∷ 0 ∷ 0 ∷ 0 ∷ 0 ∷ 0 ∷ 0 ∷ 0 ∷ 0 ∷ 0 ∷ 0 ∷ 0 ∷ []
 
 -- the stored bytes of the waypoint and of the circle with this number
 abbrev stored_waypoint : (seq : ℕ) → Bytes
@@ -43,7 +43,7 @@ loaded =
       plans = plan_with (waypoint 0 ∷ waypoint 1 ∷ []) 3 ∷ plan_with (circle 0 ∷ []) 0x01020304 ∷ plan_with (rally_point 0 ∷ []) 7 ∷ [];
       current = 1;
       begun = true;
-      counts = 9 ∷ 8 ∷ replicate 98 0;
+      counts = 9 ∷ 8 ∷ replicate 13 0;
       home = false;
     }
 
@@ -122,7 +122,7 @@ guards =
       plans = record { items = stored_waypoint 0 ∷ stored_waypoint 1 ∷ []; number = 3 } ∷ record { items = []; number = 0 } ∷ record { items = []; number = 0 } ∷ [];
       current = 1;
       begun = false;
-      counts = 9 ∷ replicate 99 0;
+      counts = 9 ∷ replicate 14 0;
       home = false;
     }))
     ∷ (shown (run flying (sets_current tablet 1 ∷ finishes ∷ uploads flight 1 (waypoint 0 ∷ []))).shown
@@ -149,12 +149,12 @@ guards =
     (with_flight (item_as flight 112 0 0x40200000 0 0 ∷ item_as flight 114 1 0x41200000 0 0 ∷ item_as flight 115 2 0x42b40000 0 0 ∷ item_as flight 178 3 0 0x40f00000 0 ∷ item_as flight 178 4 0 0xbfc00000 0 ∷ item_as flight 183 5 0x40a00000 0x44bb8000 0 ∷ []) 1)
     (finishes ∷ finishes ∷ finishes ∷ finishes ∷ finishes ∷ finishes ∷ finishes ∷ []))
     is commands (wait 0 (fin false 5 (negsuc 0)) ∷ near 1 (fin false 5 (pos 1)) ∷ turn 2 (fin false 45 (pos 1)) ∷ speed 3 (fin false 15 (negsuc 0)) ∷ speed 4 (fin true 3 (negsuc 0)) ∷ servo 5 5 1500 ∷ finished ∷ []))
-    -- a hundred jumps are passed over, a hundred and first is Stuck
-    ∷ (commands (ordered (with_flight (passed 100 0x42c80000 ++ (waypoint 100 ∷ [])) 1) (finishes ∷ [])) is commands (fly 100 ∷ []))
-    ∷ (commands (ordered (with_flight (passed 101 0x42ca0000 ++ (waypoint 101 ∷ [])) 1) (finishes ∷ [])) is commands (stuck ∷ []))
+    -- fifteen jumps are passed over, a sixteenth is Stuck
+    ∷ (commands (ordered (with_flight (passed 15 0x41700000 ++ (waypoint 15 ∷ [])) 1) (finishes ∷ [])) is commands (fly 15 ∷ []))
+    ∷ (commands (ordered (with_flight (passed 16 0x41800000 ++ (waypoint 16 ∷ [])) 1) (finishes ∷ [])) is commands (stuck ∷ []))
     -- a jump's runs are counted at its own place among the jumps, and not where its repeat is -1
     ∷ (numbers (run (with_flight (jump_to 0 f2 0 ∷ jump_to 1 f3 f1 ∷ waypoint 2 ∷ waypoint 3 ∷ []) 1) (finishes ∷ [])).shown.counts
-    is numbers (0 ∷ 1 ∷ replicate 98 0))
+    is numbers (0 ∷ 1 ∷ 0 ∷ 0 ∷ 0 ∷ 0 ∷ 0 ∷ 0 ∷ 0 ∷ 0 ∷ 0 ∷ 0 ∷ 0 ∷ 0 ∷ 0 ∷ []))
     ∷ (commands (ordered (with_flight (jump_to 0 f2 f_minus_one ∷ waypoint 1 ∷ waypoint 2 ∷ []) 1) (finishes ∷ [])) is commands (fly 2 ∷ []))
     ∷ (numbers (run (with_flight (jump_to 0 f2 f_minus_one ∷ waypoint 1 ∷ waypoint 2 ∷ []) 1) (finishes ∷ [])).shown.counts is numbers no_runs)
     ∷ []

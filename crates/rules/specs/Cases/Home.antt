@@ -14,7 +14,7 @@ use Rattle.rules.specs.Cases.Bounds.{bounds_hold}
 -- these flight items are stored, with number 3; nothing else
 abbrev homed_at : (home : Bool) → List Item → (current : ℕ) (begun : Bool) → Model
 homed_at home items current_item begun =
-    resting (record { plans = plan_with items 3 ∷ plan_with [] 0 ∷ plan_with [] 0 ∷ []; current = current_item; begun = begun; counts = 9 ∷ replicate 99 0; home = home })
+    resting (record { plans = plan_with items 3 ∷ plan_with [] 0 ∷ plan_with [] 0 ∷ []; current = current_item; begun = begun; counts = 9 ∷ replicate 14 0; home = home })
 
 -- with the setting, at item 0, which is not begun
 abbrev homed : List Item → Model
@@ -38,9 +38,9 @@ asked seq = says (request_int tablet seq 0)
 abbrev refused_by_text : Answer
 refused_by_text = says refusal_text
 
--- item 0, an item to fly, a hundred jumps that are passed over, and one more item; where item 0 is a jump, the last of them is the plan's hundred and first
+-- item 0, an item to fly, fifteen jumps that are passed over, and one more item; where item 0 is a jump, the last of them is the plan's sixteenth
 abbrev jumps : (first : Item) → List Item
-jumps first = first ∷ takeoff 1 ∷ replicate 99 (jump_to 2 f1 0) ++ (jump_to 101 f1 0 ∷ land 102 ∷ [])
+jumps first = first ∷ takeoff 1 ∷ replicate 14 (jump_to 2 f1 0) ++ (jump_to 16 f1 0 ∷ land 17 ∷ [])
 
 abbrev pub homes : List Case
 homes =
@@ -112,10 +112,10 @@ homes =
       plans = plan_with (jump_to 0 f1 0 ∷ takeoff 1 ∷ jump_to 2 f1 f1 ∷ land 3 ∷ []) 3 ∷ plan_with [] 0 ∷ plan_with [] 0 ∷ [];
       current = 1;
       begun = true;
-      counts = 9 ∷ 1 ∷ replicate 98 0;
+      counts = 9 ∷ 1 ∷ replicate 13 0;
       home = true;
     }))
-    ∷ (commands (ordered (homed (jumps (waypoint 0))) (finishes ∷ finishes ∷ [])) is commands (fly 1 ∷ fly 102 ∷ []))
+    ∷ (commands (ordered (homed (jumps (waypoint 0))) (finishes ∷ finishes ∷ [])) is commands (fly 1 ∷ fly 17 ∷ []))
     ∷ (commands (ordered (homed (jumps (jump_to 0 f1 0))) (finishes ∷ finishes ∷ [])) is commands (fly 1 ∷ stuck ∷ []))
     -- after a replacement item 0 is current, as without the setting, and what is searched for begins at 1
     ∷ (answer (after (homed_at true three 2 true) (uploads flight 2 (waypoint 0 ∷ takeoff 1 ∷ [])) (asks_for_item tablet flight 0)) is answer (says (item_int tablet 1 (waypoint 0))))
@@ -124,10 +124,10 @@ homes =
     ∷ (answer (after (homed three) (uploads flight 1 (waypoint 0 ∷ []) ++ (sends_count tablet 0 flight 1 ∷ [])) (sends_item tablet 0 (takeoff 0))) is answer (verdict 3 0))
     ∷ (model (run (homed three) (sends_part tablet 0 flight 1 1 ∷ sends_item tablet 0 (takeoff 1) ∷ []))
     is model
-    (resting (record { plans = plan_with three 4 ∷ plan_with [] 0 ∷ plan_with [] 0 ∷ []; current = 0; begun = false; counts = replicate 100 0; home = true })))
+    (resting (record { plans = plan_with three 4 ∷ plan_with [] 0 ∷ plan_with [] 0 ∷ []; current = 0; begun = false; counts = replicate 15 0; home = true })))
     ∷ (model (run (homed three) (sets_current tablet 2 ∷ finishes ∷ [])) is model (homed_at true three 2 true))
     ∷ (shown (run (homed three) (sends_clear tablet flight ∷ [])).shown
-    is shown (record { plans = plan_with [] 3 ∷ plan_with [] 0 ∷ plan_with [] 0 ∷ []; current = 0; begun = false; counts = replicate 100 0; home = true }))
+    is shown (record { plans = plan_with [] 3 ∷ plan_with [] 0 ∷ plan_with [] 0 ∷ []; current = 0; begun = false; counts = replicate 15 0; home = true }))
     ∷ (answer (after (homed three) (sends_clear tablet flight ∷ uploads flight 1 []) (sends_item tablet 0 (takeoff 0))) is answer (verdict 3 0))
     ∷ (answer (after (homed three) (sends_clear tablet 255 ∷ uploads flight 1 []) (sends_item tablet 0 (takeoff 0))) is answer (verdict 3 0))
     ∷ (answer (after (homed three) (sends_count tablet 0 flight 0 ∷ uploads flight 1 []) (sends_item tablet 0 (takeoff 0))) is answer (verdict 3 0))

@@ -5,7 +5,7 @@ use Rattle.rules.specs.Messages.{Item, partial_list, count, ack, request_int, it
 use Rattle.rules.specs.Model.{Model, idle, running, upload_of}
 use Rattle.rules.specs.Calls.{Call, message}
 use Rattle.rules.specs.Step.{Answer, refused, says, run, answers}
-use Rattle.rules.specs.Cases.{computing, Case, bytes, answer, replies, shown, upload, model, reads, ◌is◌, Hold, vehicle, tablet, neighbour, sends, sends_count, sends_part, sends_item, sends_ack, sends_clear, asks_for_list, asks_for_item, ticks, after, f1, f3, f4, f_minus_one, item_as, waypoint, land, jump_to, jumps_from, vertex, circle, plan_with, resting, verdict}
+use Rattle.rules.specs.Cases.{computing, Case, bytes, answer, replies, shown, upload, model, reads, ◌is◌, Hold, vehicle, tablet, neighbour, sends, sends_count, sends_part, sends_item, sends_ack, sends_clear, asks_for_list, asks_for_item, ticks, after, f1, f3, f4, f_minus_one, item_as, waypoint, land, jump_to, vertex, circle, plan_with, resting, verdict}
 use Rattle.rules.specs.Cases.Bounds.{bounds_hold}
 
 -- ---- what the cases start from
@@ -13,7 +13,7 @@ use Rattle.rules.specs.Cases.Bounds.{bounds_hold}
 -- these flight and fence items are stored, with numbers 3 and 7; item 1 is begun, and one jump count is not 0
 abbrev stored : List Item → List Item → Model
 stored flight_items fence_items =
-    resting (record { plans = plan_with flight_items 3 ∷ plan_with fence_items 7 ∷ plan_with [] 0 ∷ []; current = 1; begun = true; counts = 9 ∷ replicate 99 0; home = false })
+    resting (record { plans = plan_with flight_items 3 ∷ plan_with fence_items 7 ∷ plan_with [] 0 ∷ []; current = 1; begun = true; counts = 9 ∷ replicate 14 0; home = false })
 
 abbrev triangle : List Item
 triangle = vertex 0 f3 ∷ vertex 1 f3 ∷ vertex 2 f3 ∷ []
@@ -21,9 +21,9 @@ triangle = vertex 0 f3 ∷ vertex 1 f3 ∷ vertex 2 f3 ∷ []
 abbrev flying : Model
 flying = stored (waypoint 0 ∷ waypoint 1 ∷ waypoint 2 ∷ []) triangle
 
--- a hundred jumps between two waypoints
+-- fifteen jumps between two waypoints
 abbrev looping : Model
-looping = stored (waypoint 0 ∷ jumps_from 1 100 ++ (waypoint 101 ∷ [])) []
+looping = stored (waypoint 0 ∷ map (λ (n : ℕ). jump_to n 0 0) (1 ∷ 2 ∷ 3 ∷ 4 ∷ 5 ∷ 6 ∷ 7 ∷ 8 ∷ 9 ∷ 10 ∷ 11 ∷ 12 ∷ 13 ∷ 14 ∷ 15 ∷ []) ++ (waypoint 16 ∷ [])) []
 
 -- the tablet announces a part of a kind and sends these
 abbrev parts : (kind start end : ℕ) → List Item → List Call
@@ -52,7 +52,7 @@ partials =
     ∷ (reads (decode 38 (0x01 ∷ 0x02 ∷ 0xff ∷ 0xff ∷ 0x01 ∷ 0x01 ∷ 0x02 ∷ [])) is reads (partial_list vehicle 513 65535 2))
     ∷ (answer (after flying [] (sends tablet 0 38 (0x01 ∷ 0x00 ∷ 0x02 ∷ []))) is answer (says (request_int tablet 1 0)))
     -- refused in the order of the other messages; a kind above 2 is 3
-    ∷ (answer (after flying [] (message vehicle tablet 38 [] 0 9728 54)) is answer (refused 11))
+    ∷ (answer (after flying [] (message vehicle tablet 38 [] 0 5632 54)) is answer (refused 11))
     ∷ (answer (after flying [] (sends tablet 0 38 (0x01 ∷ 0x00 ∷ 0x01 ∷ 0x00 ∷ 0x02 ∷ 0x01 ∷ []))) is answer (refused 13))
     ∷ (answer (after flying [] (sends_part tablet 0 3 0 0)) is answer (verdict 3 3))
     ∷ (answer (after flying [] (sends_part tablet 0 255 0 0)) is answer (verdict 3 255))
@@ -62,13 +62,13 @@ partials =
     ∷ (model (run flying (parts flight 1 1 (land 1 ∷ [])))
     is model
     (resting
-    (record { plans = plan_with (waypoint 0 ∷ land 1 ∷ waypoint 2 ∷ []) 4 ∷ plan_with triangle 7 ∷ plan_with [] 0 ∷ []; current = 1; begun = true; counts = replicate 100 0; home = false })))
+    (record { plans = plan_with (waypoint 0 ∷ land 1 ∷ waypoint 2 ∷ []) 4 ∷ plan_with triangle 7 ∷ plan_with [] 0 ∷ []; current = 1; begun = true; counts = replicate 15 0; home = false })))
     -- all items sent as a part are a part: current item and begun stay
     ∷ (shown (run flying (parts flight 0 2 (land 0 ∷ jump_to 1 0 0 ∷ land 2 ∷ []))).shown
-    is shown (record { plans = plan_with (land 0 ∷ jump_to 1 0 0 ∷ land 2 ∷ []) 4 ∷ plan_with triangle 7 ∷ plan_with [] 0 ∷ []; current = 1; begun = true; counts = replicate 100 0; home = false }))
+    is shown (record { plans = plan_with (land 0 ∷ jump_to 1 0 0 ∷ land 2 ∷ []) 4 ∷ plan_with triangle 7 ∷ plan_with [] 0 ∷ []; current = 1; begun = true; counts = replicate 15 0; home = false }))
     -- a part of another kind leaves the counts, and gives a new number too
     ∷ (shown (run flying (parts fence 0 2 triangle)).shown
-    is shown (record { plans = plan_with (waypoint 0 ∷ waypoint 1 ∷ waypoint 2 ∷ []) 3 ∷ plan_with triangle 8 ∷ plan_with [] 0 ∷ []; current = 1; begun = true; counts = 9 ∷ replicate 99 0; home = false }))
+    is shown (record { plans = plan_with (waypoint 0 ∷ waypoint 1 ∷ waypoint 2 ∷ []) 3 ∷ plan_with triangle 8 ∷ plan_with [] 0 ∷ []; current = 1; begun = true; counts = 9 ∷ replicate 14 0; home = false }))
     -- until the last item the old plan is shown
     ∷ (shown (run flying (parts flight 0 1 (land 0 ∷ []))).shown is shown flying.shown)
     ∷ (answer (after flying (parts flight 0 1 (land 0 ∷ [])) (asks_for_item tablet flight 0)) is answer (says (item_int tablet 0 (waypoint 0))))
@@ -105,14 +105,14 @@ partials =
     ∷ (answer (after flying (parts flight 0 0 []) (sends_item tablet 0 (jump_to 0 0x40000000 0))) is answer (says (ack tablet 0 0 4)))
     ∷ (answer (after flying (parts flight 0 0 []) (sends_item tablet 0 (jump_to 0 f3 0))) is answer (verdict 6 0))
     ∷ (answer (after flying (parts flight 1 1 []) (sends_item tablet 0 (jump_to 1 f1 0))) is answer (verdict 6 0))
-    -- a hundred jumps stand: one more gets 4, at the last item only, which need not be a jump; one in place of a jump is accepted
-    ∷ (answer (after looping (parts flight 100 101 (jump_to 100 0 0 ∷ [])) (sends_item tablet 0 (jump_to 101 0 0))) is answer (verdict 4 0))
+    -- fifteen jumps stand: a sixteenth gets 4, at the last item only, which need not be a jump; one in place of a jump is accepted
+    ∷ (answer (after looping (parts flight 15 16 (jump_to 15 0 0 ∷ [])) (sends_item tablet 0 (jump_to 16 0 0))) is answer (verdict 4 0))
     ∷ (replies (answers looping (parts flight 0 1 (jump_to 0 f1 0 ∷ jump_to 1 0 0 ∷ []))) is replies (says (request_int tablet 0 0) ∷ says (request_int tablet 1 0) ∷ verdict 4 0 ∷ []))
-    ∷ (replies (answers (stored (waypoint 0 ∷ replicate 101 (jump_to 1 0 0)) []) (parts flight 0 0 (land 0 ∷ []))) is replies (says (request_int tablet 0 0) ∷ verdict 4 0 ∷ []))
-    ∷ (answer (after looping (parts flight 100 101 (waypoint 100 ∷ [])) (sends_item tablet 0 (jump_to 101 0 0))) is answer (says (ack tablet 0 0 4)))
+    ∷ (replies (answers (stored (waypoint 0 ∷ replicate 16 (jump_to 1 0 0)) []) (parts flight 0 0 (land 0 ∷ []))) is replies (says (request_int tablet 0 0) ∷ verdict 4 0 ∷ []))
+    ∷ (answer (after looping (parts flight 15 16 (waypoint 15 ∷ [])) (sends_item tablet 0 (jump_to 16 0 0))) is answer (says (ack tablet 0 0 4)))
     ∷ (answer (after looping (parts flight 1 1 []) (sends_item tablet 0 (jump_to 1 0 f_minus_one))) is answer (says (ack tablet 0 0 4)))
     -- after 4 plan, number and progress stand
-    ∷ (model (run looping (parts flight 101 101 (jump_to 101 0 0 ∷ []))) is model looping)
+    ∷ (model (run looping (parts flight 16 16 (jump_to 16 0 0 ∷ []))) is model looping)
     -- the fence rule is applied to the whole: a part breaks it, and mends a fence that a host broke
     ∷ (answer (after flying (parts fence 1 1 []) (sends_item tablet 0 (vertex 1 f4))) is answer (verdict 5 1))
     ∷ (model (run flying (parts fence 1 1 (vertex 1 f4 ∷ []))) is model flying)

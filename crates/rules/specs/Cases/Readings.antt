@@ -28,12 +28,12 @@ fencing = fencing_at 120 0
 abbrev unranged : Model
 unranged = record { shown = record { plans = flying.shown.plans; current = 0; begun = true; counts = 32768 ∷ []; home = false }; uploads = flying.uploads }
 
--- the tablet uploads 102 flight items, and the hundred taken are jumps
+-- the tablet uploads 17 flight items, and the fifteen taken are jumps
 abbrev jumping : Model
 jumping =
     record {
       shown = (fresh false).shown;
-      uploads = running (record { station = tablet; task = whole_task 102; next = 100; taken = replicate 100 (item_of (jump_to 1 0 0)); started = 0; repeats = 0 }) ∷ idle ∷ idle ∷ [];
+      uploads = running (record { station = tablet; task = whole_task 17; next = 15; taken = replicate 15 (item_of (jump_to 1 0 0)); started = 0; repeats = 0 }) ∷ idle ∷ idle ∷ [];
     }
 
 -- a message call with other lengths than the least
@@ -65,17 +65,17 @@ readings =
     -- a COUNT and its first item start an upload, and what is shown stays
     (model (run flying (sends_count tablet 100 fence 2 ∷ sends_item tablet 120 (circle 0) ∷ [])) is model fencing)
     -- the order of refusals: 14, 15, 10, 11, 12, 13
-    ∷ (answer (after unranged [] (lent 9727 53 ack_id [])) is answer (refused 14))
-    ∷ (answer (after unranged [] (lent 9728 53 ack_id [])) is answer (refused 15))
-    ∷ (answer (after (fresh false) [] (lent 9728 53 ack_id [])) is answer (refused 10))
-    ∷ (answer (after (fresh false) [] (lent 9728 54 42 [])) is answer (refused 11))
-    ∷ (answer (after (fresh false) [] (lent 9728 54 current_id (0 ∷ 0 ∷ 9 ∷ 9 ∷ []))) is answer (refused 12))
-    ∷ (answer (after (fresh false) [] (lent 9728 54 statustext_id (0 ∷ []))) is answer (refused 12))
-    ∷ (answer (after (fresh false) [] (lent 9728 54 300 (0 ∷ []))) is answer (refused 12))
-    ∷ (answer (after (fresh false) [] (timer 3 0 9728 53)) is answer (refused 10))
-    ∷ (answer (after (fresh false) [] (timer 3 0 9728 54)) is answer (refused 12))
-    ∷ (answer (after unranged [] (done 9728)) is answer (refused 15))
-    ∷ (answer (after unranged [] (done 9727)) is answer (refused 14))
+    ∷ (answer (after unranged [] (lent 5631 53 ack_id [])) is answer (refused 14))
+    ∷ (answer (after unranged [] (lent 5632 53 ack_id [])) is answer (refused 15))
+    ∷ (answer (after (fresh false) [] (lent 5632 53 ack_id [])) is answer (refused 10))
+    ∷ (answer (after (fresh false) [] (lent 5632 54 42 [])) is answer (refused 11))
+    ∷ (answer (after (fresh false) [] (lent 5632 54 current_id (0 ∷ 0 ∷ 9 ∷ 9 ∷ []))) is answer (refused 12))
+    ∷ (answer (after (fresh false) [] (lent 5632 54 statustext_id (0 ∷ []))) is answer (refused 12))
+    ∷ (answer (after (fresh false) [] (lent 5632 54 300 (0 ∷ []))) is answer (refused 12))
+    ∷ (answer (after (fresh false) [] (timer 3 0 5632 53)) is answer (refused 10))
+    ∷ (answer (after (fresh false) [] (timer 3 0 5632 54)) is answer (refused 12))
+    ∷ (answer (after unranged [] (done 5632)) is answer (refused 15))
+    ∷ (answer (after unranged [] (done 5631)) is answer (refused 14))
     -- system and component are judged apart; missing target bytes are 0
     ∷ (answer (after (fresh false) [] (sends tablet 0 request_int_id (0 ∷ 0 ∷ 0 ∷ 9 ∷ []))) is answer (refused 13))
     ∷ (answer (after (fresh false) [] (sends tablet 0 request_int_id (0 ∷ 0 ∷ 9 ∷ []))) is answer (refused 13))
@@ -155,11 +155,11 @@ readings =
     ∷ (answer (after flying (uploads flight 4 []) (sends_item tablet 0 (jump_to 0 0 0))) is answer (verdict 6 0))
     ∷ (answer (after flying (uploads flight 4 []) (sends_item tablet 0 (jump_to 0 0x3fc00000 0))) is answer (verdict 6 0))
     ∷ (answer (after flying (uploads flight 4 []) (sends_item tablet 0 (jump_to 0 f_minus_one 0))) is answer (verdict 6 0))
-    -- a hundred and first jump gets 4, last in the order
-    ∷ (answer (after jumping [] (sends_item tablet 0 (jump_to 100 0 0))) is answer (verdict 4 0))
-    ∷ (answer (after jumping [] (sends_item tablet 0 (jump_to 100 0 0x3f000000))) is answer (verdict 7 0))
-    ∷ (answer (after jumping [] (sends_item tablet 0 (jump_to 100 0 f_na_n))) is answer (verdict 4 0))
-    ∷ (answer (after jumping [] (sends_item tablet 0 (waypoint 100))) is answer (says (request_int tablet 101 0)))
+    -- a sixteenth jump gets 4, last in the order
+    ∷ (answer (after jumping [] (sends_item tablet 0 (jump_to 15 0 0))) is answer (verdict 4 0))
+    ∷ (answer (after jumping [] (sends_item tablet 0 (jump_to 15 0 0x3f000000))) is answer (verdict 7 0))
+    ∷ (answer (after jumping [] (sends_item tablet 0 (jump_to 15 0 f_na_n))) is answer (verdict 4 0))
+    ∷ (answer (after jumping [] (sends_item tablet 0 (waypoint 15))) is answer (says (request_int tablet 16 0)))
     -- REQUEST_LIST and REQUEST_INT show the plan and never a running upload; the current field goes with the current item, begun or not
     ∷ (answer (after fencing [] (asks_for_list tablet fence)) is answer (says (count tablet 0 1 0)))
     ∷ (answer (after fencing [] (asks_for_item tablet fence 0)) is answer (verdict 13 1))
@@ -168,7 +168,7 @@ readings =
     ∷ (answer (after flying (sends_count tablet 0 fence 1 ∷ sends_item tablet 0 (circle 0) ∷ []) (asks_for_item tablet fence 0)) is answer (says (item_int tablet 0 (circle 0))))
     -- SET_CURRENT on the current item makes it not begun and keeps the counts; on an empty plan it gets the text
     ∷ (shown (run flying (sets_current tablet 0 ∷ [])).shown
-    is shown (record { plans = flying.shown.plans; current = 0; begun = false; counts = 9 ∷ replicate 99 0; home = false }))
+    is shown (record { plans = flying.shown.plans; current = 0; begun = false; counts = 9 ∷ replicate 14 0; home = false }))
     ∷ (answer (after flying [] (sets_current tablet 1)) is answer (says (current 1 2 0 0 3 0 0)))
     ∷ (answer (after flying [] (sets_current tablet 2)) is answer (says refusal_text))
     ∷ (answer (after (fresh false) [] (sets_current tablet 0)) is answer (says refusal_text))

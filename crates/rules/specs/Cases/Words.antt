@@ -29,8 +29,8 @@ ending last = 1 ∷ 2 ∷ 3 ∷ 4 ∷ 5 ∷ 6 ∷ 7 ∷ last ∷ []
 
 abbrev pub words : List Case
 words =
-    -- (M-110) "9,728 words (2 x 608 x 8)"
-    (numbers (item_words ∷ store_words ∷ []) is numbers (8 ∷ 9728 ∷ []))
+    -- "5,632 words (2 x 352 x 8)"
+    (numbers (item_words ∷ store_words ∷ []) is numbers (8 ∷ 5632 ∷ []))
     -- word 7 is command + 65536 * frame + 2^24 * autocontinue
     ∷ (numbers (words_of speed) is numbers (0x7fc00001 ∷ 0x40a00000 ∷ 0x80000000 ∷ 0xffffffff ∷ 0x01020304 ∷ 0xfffefdfc ∷ 0x41200000 ∷ 0x010200b2 ∷ []))
     -- its 38 bytes, as number 258 of flight: seq and kind of the place, system, component and current 0

@@ -1,6 +1,6 @@
 -- The item's place is in the store, the words put there are the item's, and its fields fit by their types, so it reads back.
-use mathlib.Core.Path.{◌≡◌, ap, ap₂, ◌∙◌}
-use mathlib.Core.List.{List}
+use mathlib.Core.Path.{◌≡◌, ap, ◌∙◌}
+use mathlib.Core.List.{[], ◌∷◌}
 use mathlib.Core.Bool.{Bool}
 use Prim.Native.Nat.{ℕ, ◌≤◌, ◌<◌}
 use native.Mathlib.Omega.{arith}
@@ -8,7 +8,7 @@ use lib.ListN.{length}
 use Rattle.rules.specs.Limits.{rally, size_of, store_words}
 use Rattle.rules.specs.Layouts.{layout_of}
 use Rattle.rules.specs.Messages.{Item, station, item_int, item_in}
-use Rattle.rules.specs.Words.{words_of}
+use Rattle.rules.specs.Words.{last_word_of, words_of}
 use Rattle.rule_laws.specs.Fitting.{Fits}
 use Rattle.item.specs.Patterns.{patterns}
 use Rattle.places.specs.Part.{put}
@@ -20,11 +20,15 @@ use borrow.Author.Rules.{rules}
 use Rattle.storage.proofs.keep.Statement.{statement}
 use Rattle.storage.proofs.keep.Tie as tie
 
-put_there : (store after : Store) (half : Bool) (kind n at : ℕ) (kept : List ℕ) (i : Item) → store_words ≤ length store → kind ≤ rally → n < size_of kind
-    → Fits (item_int (station 0 0) 0 i) → at ≡ offset_of words half kind n → kept ≡ words_of i → after ≡ put store at kept
+put_there : (store after : Store) (half : Bool) (kind n at last : ℕ) (i : Item) → store_words ≤ length store → kind ≤ rally → n < size_of kind
+    → Fits (item_int (station 0 0) 0 i) → at ≡ offset_of words half kind n → last ≡ last_word_of i.command i.frame i.autocontinue
+    → after ≡ put store at (i.param1 ∷ i.param2 ∷ i.param3 ∷ i.param4 ∷ i.x ∷ i.y ∷ i.z ∷ last ∷ [])
     → (after ≡ put_at words store half kind n (words_of i)) × (item_in (item_at words after half kind n) ≡ at_place kind n i)
-put_there store after half kind n at kept i long known below fits place its is =
-    let there : after ≡ put_at words store half kind n (words_of i) = is ∙ ap₂ (put store) place its in
+put_there store after half kind n at last i long known below fits place ending is =
+    let there : after ≡ put_at words store half kind n (words_of i) =
+    is
+    ∙ ap (λ (w : ℕ). put store at (i.param1 ∷ i.param2 ∷ i.param3 ∷ i.param4 ∷ i.x ∷ i.y ∷ i.z ∷ w ∷ [])) ending
+    ∙ ap (λ (k : ℕ). put store k (words_of i)) place in
     (there, ap (λ (s : Store). item_in (item_at words s half kind n)) there ∙ kept_fetched i fits store half kind n long known below (omega (arith, sizes_short kind)))
 
 -- what the struct's type says of its numbers
@@ -32,8 +36,8 @@ item_fits : (c : tie.Start) → Fits (item_int (station 0 0) 0 (patterns c.args.
 unfolding layout_of
 item_fits c = search rules
 
-words-of-requires : tie.Need-words-of-requires
-words-of-requires c κs = search rules
+last-word-requires : tie.Need-last-word-requires
+last-word-requires c κs = search rules
 
 place-at-requires : tie.Need-place-at-requires
 place-at-requires c κs = search rules
@@ -51,7 +55,7 @@ returns c =
     let start = c.before.before.before.before.before.before.before in
     let a = start.args in
     put_there a.store.now _ a.half a.kind a.n c.before.before.before.place_at.result _ (patterns a.item) (search rules) (search rules) (search rules)
-    (item_fits start) c.before.before.before.place_at.ensures c.before.before.before.before.before.words_of.ensures c.before.before.put_item.ensures
+    (item_fits start) c.before.before.before.place_at.ensures c.before.before.before.before.before.last_word.ensures c.before.before.put_item.ensures
 
 pub keep_spec : {M : Type 1} → statement M
-keep_spec = tie.close (tie.spec words-of-requires place-at-requires put-item-requires same_length returns)
+keep_spec = tie.close (tie.spec last-word-requires place-at-requires put-item-requires same_length returns)

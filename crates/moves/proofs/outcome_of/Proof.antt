@@ -1,0 +1,31 @@
+-- Each return is the first test that holds, in the rules' order.
+use mathlib.Core.Path.{◌≡◌, refl}
+use mathlib.Core.Bool.{Bool, true, false, not, ◌||◌}
+use Prim.Native.Nat.{ℕ}
+use lib.Dec.{ltb}
+use Rattle.rules.specs.Limits.{no_reply, out_of_range}
+use Rattle.places.specs.Forms.{words, bytes, least}
+use Rattle.moves.specs.Moves.{outcome_of}
+use borrow.Author.Rules.{rules}
+use borrow.Author.Tests.{not-true, not-false}
+use Rattle.moves.proofs.outcome_of.Statement.{statement}
+use Rattle.moves.proofs.outcome_of.Tie as tie
+
+module _ (ranged : Bool) (old new : ℕ) (long : (ltb old (least bytes) || ltb new (least words)) ≡ false) where
+  out_of_range : not ranged ≡ true → out_of_range ≡ outcome_of ranged old new
+  out_of_range out = simp (long, not-true ranged out)
+
+  moves_on : not ranged ≡ false → no_reply ≡ outcome_of ranged old new
+  moves_on fine = simp (long, not-false ranged fine)
+
+returns : tie.Need-returns
+returns c = rw c.if1.true refl
+
+returns-2 : tie.Need-returns-2
+returns-2 c = search (out_of_range, rules)
+
+returns-3 : tie.Need-returns-3
+returns-3 c = search (moves_on, rules)
+
+pub outcome-of-spec : {M : Type 1} → statement M
+outcome-of-spec = tie.close (tie.spec returns returns-2 returns-3)
