@@ -1,5 +1,7 @@
 // Text behind the text so far, which ends at a place, in a lent buffer, and parts of lent slices. What is put answers where the text then ends; past the
 // buffer's end nothing is kept.
+#![tactic(auto)]
+
 mod parts;
 
 ghost use Rattle.std.specs.Prelude.{[], ◌∷◌};

@@ -1,4 +1,6 @@
 // What "command done" answers, with the item's number: its seconds, metres, degrees or speed, or a servo's channel and pulse.
+#![tactic(auto)]
+
 #[derive(Drop)]
 pub enum Command {
     Fly(u16),

@@ -1,5 +1,7 @@
 // Bytes copied between lent slices. For all that the compiler knows two lent slices may share memory, so that a loop over their bytes tests for that or goes byte
 // by byte; what goes through a local block is moved as a whole.
+#![tactic(auto)]
+
 ghost use Rattle.std.specs.Prelude.{◌≡◌, ◌+◌, ◌≤◌, length, drop};
 ghost use Rattle.std.proofs.Math.Seq.{paste};
 ghost use Rattle.copying.specs.Blocks.{block_bytes, front_bytes};

@@ -1,4 +1,6 @@
 // Numbers in bytes, little-endian: read where all their bytes are there, and written as bytes.
+#![tactic(auto)]
+
 ghost use Rattle.std.specs.Prelude.{◌≡◌, [], ◌∷◌, ◌+◌, ◌≤◌, length};
 ghost use Rattle.rules.specs.Payload.{number_at, bytes_of};
 

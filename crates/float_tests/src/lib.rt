@@ -1,4 +1,6 @@
 // The tests that the item rules make of floats.
+#![tactic(auto)]
+
 ghost use Rattle.std.specs.Prelude.{◌≡◌};
 ghost use Rattle.std.specs.Float.Ieee.{is_nan};
 ghost use Rattle.rules.specs.Values.{finite, at_least_zero, above_zero, zero_to};

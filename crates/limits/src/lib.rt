@@ -1,5 +1,6 @@
 // The documents' kinds, results and limits as constants of the code. What each is called in the specifications is in
 // crates/rules/specs/Limits.antt, of the commands in Items.antt.
+#![tactic(auto)]
 
 // The kinds of plan; CLEAR_ALL may also speak of every kind.
 pub const FLIGHT: u8 = 0;
