@@ -1,4 +1,6 @@
 // Bytes and words written over others, in a store that a host writes, and words compared.
+#![tactic(auto)]
+
 ghost use Rattle.std.specs.Prelude.{◌≡◌, true};
 ghost use Rattle.writing.specs.Written.{written, words_written};
 

@@ -3,8 +3,7 @@ use Prim.Native.Nat.{ℕ, zero, suc}
 use mathlib.Core.Path.{◌≡◌, refl}
 use Rattle.rules.specs.Limits.{fence, rally, first_place_of}
 use borrow.Author.Rules.{rules}
-use Rattle.places.proofs.first_place_of.Statement.{statement}
-use Rattle.places.proofs.first_place_of.Tie as tie
+use Rattle.places.proofs.first_place_of.Goals as goal
 
 other : (kind : ℕ) → (kind ≡ fence → ⊥) → (kind ≡ rally → ⊥) → 0 ≡ first_place_of kind
 other zero not-fence not-rally = refl
@@ -12,14 +11,5 @@ other (suc zero) not-fence not-rally = absurd (not-fence refl)
 other (suc (suc zero)) not-fence not-rally = absurd (not-rally refl)
 other (suc (suc (suc kind))) not-fence not-rally = refl
 
-returns : tie.Need-returns
-returns c = search rules
-
-returns-2 : tie.Need-returns-2
-returns-2 c = search rules
-
-returns-3 : tie.Need-returns-3
-returns-3 c = search (other, rules)
-
-pub first-place-of-spec : {M : Type 1} → statement M
-first-place-of-spec = tie.close (tie.spec returns returns-2 returns-3)
+pub returns-in_default : goal.returns-in_default
+returns-in_default c = search (other, rules)
