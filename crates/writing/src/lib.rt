@@ -16,7 +16,8 @@ pub fn write(store: &mut [u8], at: usize, payload: &[u8])
     if store.len() - at < payload.len() {
         return;
     }
-    bytes::copy(payload, &mut store[at..]);
+    let end = at + payload.len();
+    store[at..end].copy_from_slice(payload);
 }
 
 // The same of words, whose bytes stand in the payload, lowest first. Nothing is written where they are not whole words.
