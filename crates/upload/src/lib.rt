@@ -7,7 +7,7 @@ pub mod updates;
 pub mod uploads;
 
 // What a handler says to a station about its kind: nothing, an ACK with result and plan number, or a request of an item.
-#[derive(Drop)]
+#[derive(Clone, Copy)]
 pub enum Say {
     Silent,
     Ack(u8, u32),
@@ -15,7 +15,7 @@ pub enum Say {
 }
 
 // What a message or a timer call does to the state, where it does anything.
-#[derive(Drop)]
+#[derive(Clone, Copy)]
 pub enum Effect {
     Nothing,
     // The plan of the kind keeps its items, and its upload is another.
@@ -31,7 +31,7 @@ pub enum Effect {
 }
 
 // What a handler of one plan does, and what it says.
-#[derive(Drop)]
+#[derive(Clone, Copy)]
 pub struct Turned {
     pub effect: Effect,
     pub say: Say,

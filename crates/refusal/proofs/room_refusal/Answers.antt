@@ -8,8 +8,7 @@ use borrow.Author.Tests.{lt-ltb, le-ltb}
 use Rattle.rules.specs.Limits.{store_words, reply_bytes_min, short_store, out_of_range, short_reply}
 use Rattle.rules.specs.Calls.{refuses, command_done, done, heard}
 use Rattle.refusal.specs.Refusals.{refusal_of, room_refusal, HeardDone, done_heard}
-use Rattle.refusal.proofs.room_refusal.Statement.{statement}
-use Rattle.refusal.proofs.room_refusal.Tie as tie
+use Rattle.refusal.proofs.room_refusal.Goals as goal
 
 module _ (ranged : Bool) (store reply first : ℕ) (by : first ≡ refusal_of (heard ranged (done store))) where
   earlier : (first ≡ 0 → ⊥) → first ≡ room_refusal ranged store reply
@@ -34,17 +33,11 @@ module _ (ranged : Bool) (store reply first : ℕ) (by : first ≡ refusal_of (h
       let h : HeardDone ranged store = done_heard ranged store (sym by ∙ none) in
       simp (le-ltb _ _ h.long, h.in_range, le-ltb _ _ room)
 
-done-refusal-requires : tie.Need-done-refusal-requires
-done-refusal-requires c κs = search rules
+pub returns-then-first-ne0 : goal.returns-then-first-ne0
+returns-then-first-ne0 c = search (earlier, rules)
 
-returns : tie.Need-returns
-returns c = search (earlier, rules)
+pub returns-then-reply_len-lt-REPLY_BYTES : goal.returns-then-reply_len-lt-REPLY_BYTES
+returns-then-reply_len-lt-REPLY_BYTES c = search (short_reply_lem, rules)
 
-returns-2 : tie.Need-returns-2
-returns-2 c = search (short_reply_lem, rules)
-
-returns-3 : tie.Need-returns-3
-returns-3 c = search (passes, rules)
-
-pub room-refusal-spec : {M : Type 1} → statement M
-room-refusal-spec = tie.close (tie.spec done-refusal-requires returns returns-2 returns-3)
+pub returns : goal.returns
+returns c = search (passes, rules)

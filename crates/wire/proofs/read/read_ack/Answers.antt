@@ -7,39 +7,12 @@ use Rattle.rules.specs.Layouts.{layout_of, values, ack_id}
 use Rattle.rules.specs.Messages.{station, ack, message_of, decode}
 use Rattle.fields.specs.Numbers.{number_one}
 use borrow.Author.Rules.{rules}
-use Rattle.wire.proofs.read.read_ack.Statement.{statement}
-use Rattle.wire.proofs.read.read_ack.Tie as tie
+use Rattle.wire.proofs.read.read_ack.Goals as goal
 
 -- each field is the number at its offset
 from_own : (own : Bytes) (number : ℕ) → number ≡ number_at 4 4 own → ack (station (get_or own 0 0) (get_or own 1 0)) (get_or own 2 0) (get_or own 3 0) number ≡ decode ack_id own
 unfolding decode message_of layout_of values
 from_own own number is_number = λ i. ack (station (sym (number_one 0 own) i) (sym (number_one 1 own) i)) (sym (number_one 2 own) i) (sym (number_one 3 own) i) (is_number i)
 
-returns : tie.Need-returns
+pub returns : goal.returns
 returns c = search (from_own, rules)
-
-element-copy-out-t4 : tie.Need-element-copy-out-t4
-element-copy-out-t4 c = search rules
-
-element-copy-out-t7 : tie.Need-element-copy-out-t7
-element-copy-out-t7 c = search rules
-
-element-copy-out-t10 : tie.Need-element-copy-out-t10
-element-copy-out-t10 c = search rules
-
-element-copy-out-t13 : tie.Need-element-copy-out-t13
-element-copy-out-t13 c = search rules
-
-u32-at-requires : tie.Need-u32-at-requires
-u32-at-requires c κs = search rules
-
-pub read-ack-spec : {M : Type 1} → statement M
-read-ack-spec =
-    tie.close
-    (tie.spec
-    element-copy-out-t4
-    element-copy-out-t7
-    element-copy-out-t10
-    element-copy-out-t13
-    u32-at-requires
-    returns)

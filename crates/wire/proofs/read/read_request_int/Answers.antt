@@ -7,35 +7,12 @@ use Rattle.rules.specs.Layouts.{layout_of, values, request_int_id}
 use Rattle.rules.specs.Messages.{station, request_int, message_of, decode}
 use Rattle.fields.specs.Numbers.{number_one}
 use borrow.Author.Rules.{rules}
-use Rattle.wire.proofs.read.read_request_int.Statement.{statement}
-use Rattle.wire.proofs.read.read_request_int.Tie as tie
+use Rattle.wire.proofs.read.read_request_int.Goals as goal
 
 -- each field is the number at its offset
 from_own : (own : Bytes) (seq : ℕ) → seq ≡ number_at 2 0 own → request_int (station (get_or own 2 0) (get_or own 3 0)) seq (get_or own 4 0) ≡ decode request_int_id own
 unfolding decode message_of layout_of values
 from_own own seq is-seq = λ i. request_int (station (sym (number_one 2 own) i) (sym (number_one 3 own) i)) (is-seq i) (sym (number_one 4 own) i)
 
-returns : tie.Need-returns
+pub returns : goal.returns
 returns c = search (from_own, rules)
-
-u16-at-requires : tie.Need-u16-at-requires
-u16-at-requires c κs = search rules
-
-element-copy-out-t7 : tie.Need-element-copy-out-t7
-element-copy-out-t7 c = search rules
-
-element-copy-out-t10 : tie.Need-element-copy-out-t10
-element-copy-out-t10 c = search rules
-
-element-copy-out-t13 : tie.Need-element-copy-out-t13
-element-copy-out-t13 c = search rules
-
-pub read-request-int-spec : {M : Type 1} → statement M
-read-request-int-spec =
-    tie.close
-    (tie.spec
-    u16-at-requires
-    element-copy-out-t7
-    element-copy-out-t10
-    element-copy-out-t13
-    returns)

@@ -6,26 +6,12 @@ use Rattle.rules.specs.Layouts.{layout_of, values, request_list_id}
 use Rattle.rules.specs.Messages.{station, request_list, message_of, decode}
 use Rattle.fields.specs.Numbers.{number_one}
 use borrow.Author.Rules.{rules}
-use Rattle.wire.proofs.read.read_request_list.Statement.{statement}
-use Rattle.wire.proofs.read.read_request_list.Tie as tie
+use Rattle.wire.proofs.read.read_request_list.Goals as goal
 
 -- each field is the number at its offset
 from_own : (own : Bytes) → request_list (station (get_or own 0 0) (get_or own 1 0)) (get_or own 2 0) ≡ decode request_list_id own
 unfolding decode message_of layout_of values
 from_own own = λ i. request_list (station (sym (number_one 0 own) i) (sym (number_one 1 own) i)) (sym (number_one 2 own) i)
 
-returns : tie.Need-returns
+pub returns : goal.returns
 returns c = search (from_own, rules)
-
-element-copy-out-t4 : tie.Need-element-copy-out-t4
-element-copy-out-t4 c = search rules
-
-element-copy-out-t7 : tie.Need-element-copy-out-t7
-element-copy-out-t7 c = search rules
-
-element-copy-out-t10 : tie.Need-element-copy-out-t10
-element-copy-out-t10 c = search rules
-
-pub read-request-list-spec : {M : Type 1} → statement M
-read-request-list-spec =
-    tie.close (tie.spec element-copy-out-t4 element-copy-out-t7 element-copy-out-t10 returns)

@@ -11,8 +11,7 @@ use Rattle.copying.specs.Blocks.{front_bytes}
 use Rattle.trimming.specs.Written.{Written}
 use Rattle.trimming.proofs.Laws.{trim_front, pasted}
 use borrow.Author.Rules.{rules}
-use Rattle.trimming.proofs.write_trimmed.Statement.{statement}
-use Rattle.trimming.proofs.write_trimmed.Tie as tie
+use Rattle.trimming.proofs.write_trimmed.Goals as goal
 
 module _ (bytes out : Bytes) (f full : ℕ) (long : length bytes ≡ f) (is : full ≡ f) where
   too_short : length out < full → Written bytes out out 0
@@ -35,25 +34,11 @@ module _ (bytes out : Bytes) (f full : ℕ) (long : length bytes ≡ f) (is : fu
           short = λ less. absurd (omega arith);
         }
 
-full-of-requires : tie.Need-full-of-requires
-full-of-requires c κs = search rules
+pub returns-then-out-full : goal.returns-then-out-full
+returns-then-out-full c = search (too_short, rules)
 
-returns : tie.Need-returns
-returns c = search (too_short, rules)
+pub copy_front-requires : goal.copy_front-requires
+copy_front-requires c = search (in_bytes, in_out, in_blocks, layouts_fit, rules)
 
-trimmed-len-requires : tie.Need-trimmed-len-requires
-trimmed-len-requires c κs = search rules
-
-copy-front-requires : tie.Need-copy-front-requires
-copy-front-requires c κs = search (in_bytes, in_out, in_blocks, layouts_fit, rules)
-
-same_length : tie.Need-same-length
-same_length c = search rules
-
-returns-2 : tie.Need-returns-2
-returns-2 c = search (wrote, rules)
-
-pub write-trimmed-spec : {M : Type 1} → statement M
-write-trimmed-spec =
-    tie.close
-    (tie.spec full-of-requires returns trimmed-len-requires copy-front-requires same_length returns-2)
+pub returns : goal.returns
+returns c = search (wrote, rules)

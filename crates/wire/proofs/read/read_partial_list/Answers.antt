@@ -7,39 +7,12 @@ use Rattle.rules.specs.Layouts.{layout_of, values, partial_list_id}
 use Rattle.rules.specs.Messages.{station, partial_list, message_of, decode}
 use Rattle.fields.specs.Numbers.{number_one}
 use borrow.Author.Rules.{rules}
-use Rattle.wire.proofs.read.read_partial_list.Statement.{statement}
-use Rattle.wire.proofs.read.read_partial_list.Tie as tie
+use Rattle.wire.proofs.read.read_partial_list.Goals as goal
 
 -- each field is the number at its offset
 from_own : (own : Bytes) (start end : ℕ) → start ≡ number_at 2 0 own → end ≡ number_at 2 2 own → partial_list (station (get_or own 4 0) (get_or own 5 0)) start end (get_or own 6 0) ≡ decode partial_list_id own
 unfolding decode message_of layout_of values
 from_own own start end is-start is-end = λ i. partial_list (station (sym (number_one 4 own) i) (sym (number_one 5 own) i)) (is-start i) (is-end i) (sym (number_one 6 own) i)
 
-returns : tie.Need-returns
+pub returns : goal.returns
 returns c = search (from_own, rules)
-
-u16-at-requires : tie.Need-u16-at-requires
-u16-at-requires c κs = search rules
-
-u16-at-requires-2 : tie.Need-u16-at-requires-2
-u16-at-requires-2 c κs = search rules
-
-element-copy-out-t10 : tie.Need-element-copy-out-t10
-element-copy-out-t10 c = search rules
-
-element-copy-out-t13 : tie.Need-element-copy-out-t13
-element-copy-out-t13 c = search rules
-
-element-copy-out-t16 : tie.Need-element-copy-out-t16
-element-copy-out-t16 c = search rules
-
-pub read-partial-list-spec : {M : Type 1} → statement M
-read-partial-list-spec =
-    tie.close
-    (tie.spec
-    u16-at-requires
-    u16-at-requires-2
-    element-copy-out-t10
-    element-copy-out-t13
-    element-copy-out-t16
-    returns)

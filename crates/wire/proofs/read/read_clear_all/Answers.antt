@@ -6,26 +6,12 @@ use Rattle.rules.specs.Layouts.{layout_of, values, clear_all_id}
 use Rattle.rules.specs.Messages.{station, clear_all, message_of, decode}
 use Rattle.fields.specs.Numbers.{number_one}
 use borrow.Author.Rules.{rules}
-use Rattle.wire.proofs.read.read_clear_all.Statement.{statement}
-use Rattle.wire.proofs.read.read_clear_all.Tie as tie
+use Rattle.wire.proofs.read.read_clear_all.Goals as goal
 
 -- each field is the number at its offset
 from_own : (own : Bytes) → clear_all (station (get_or own 0 0) (get_or own 1 0)) (get_or own 2 0) ≡ decode clear_all_id own
 unfolding decode message_of layout_of values
 from_own own = λ i. clear_all (station (sym (number_one 0 own) i) (sym (number_one 1 own) i)) (sym (number_one 2 own) i)
 
-returns : tie.Need-returns
+pub returns : goal.returns
 returns c = search (from_own, rules)
-
-element-copy-out-t4 : tie.Need-element-copy-out-t4
-element-copy-out-t4 c = search rules
-
-element-copy-out-t7 : tie.Need-element-copy-out-t7
-element-copy-out-t7 c = search rules
-
-element-copy-out-t10 : tie.Need-element-copy-out-t10
-element-copy-out-t10 c = search rules
-
-pub read-clear-all-spec : {M : Type 1} → statement M
-read-clear-all-spec =
-    tie.close (tie.spec element-copy-out-t4 element-copy-out-t7 element-copy-out-t10 returns)

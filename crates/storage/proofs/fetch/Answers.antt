@@ -14,8 +14,7 @@ use Rattle.places.specs.Part.{part, part_below}
 use Rattle.places.specs.Forms.{Store, words, offset_of, item_at}
 use Rattle.places.specs.Places.{words_lawful, offset_within, sizes_short}
 use borrow.Author.Rules.{rules}
-use Rattle.storage.proofs.fetch.Statement.{statement}
-use Rattle.storage.proofs.fetch.Tie as tie
+use Rattle.storage.proofs.fetch.Goals as goal
 
 read_there : (store : Store) (half : Bool) (kind n at : ℕ) (i : Item) → ((j : ℕ) → get_or store j 0 < clock_values) → kind ≤ rally → n < size_of kind
     → at ≡ offset_of words half kind n → i ≡ item_for (item_of_words (take (at + item_words - at) (drop at store)) kind n)
@@ -29,49 +28,22 @@ read_there store half kind n at i small known below place read =
     ∙ ap (λ (k : ℕ). item_for (item_of_words (take item_words (drop k store)) kind n)) place
     ∙ ap item_for (sym (words_read w kind n (part_below store (offset_of words half kind n) item_words clock_values small) (omega arith) (omega (arith, sizes_short kind))))
 
-place-at-requires : tie.Need-place-at-requires
-place-at-requires c κs = search rules
-
-add-end : tie.Need-overflow-add-end
-add-end c =
-    let a = c.before.before.args in
+pub overflow_add-end : goal.overflow_add-end
+overflow_add-end c =
+    let a = c.args in
     omega (arith, offset_within words words_lawful a.half a.kind a.n (search rules) (search rules))
 
-mul-item-in : tie.Need-overflow-mul-item-in
-mul-item-in c =
-    let a = c.before.before.args in
+pub offset_bounds-store-at : goal.offset_bounds-store-at
+offset_bounds-store-at c =
+    let a = c.args in
     omega (arith, offset_within words words_lawful a.half a.kind a.n (search rules) (search rules))
 
-sub-item-in : tie.Need-overflow-sub-item-in
-sub-item-in c = search rules
-
-part-item-in-start : tie.Need-slice-bounds-item-in-start
-part-item-in-start c = search rules
-
-part-item-in-end : tie.Need-slice-bounds-item-in-end
-part-item-in-end c =
-    let a = c.before.before.args in
+pub slice_bounds-item_in-end : goal.slice_bounds-item_in-end
+slice_bounds-item_in-end c =
+    let a = c.args in
     omega (arith, offset_within words words_lawful a.half a.kind a.n (search rules) (search rules))
 
-item-in-requires : tie.Need-item-in-requires
-item-in-requires c κs = search rules
-
-returns : tie.Need-returns
-returns c =
-    let start = c.before.before.before.before in
-    let a = start.args in
-    read_there a.store.now a.half a.kind a.n c.before.before.place_at.result _ (λ j. (c.before.before.before.shared-slice-known.given j).fits) (search rules)
-    (search rules) c.before.before.place_at.ensures c.item_in.ensures
-
-pub fetch_spec : {M : Type 1} → statement M
-fetch_spec =
-    tie.close
-    (tie.spec
-    place-at-requires
-    add-end
-    mul-item-in
-    sub-item-in
-    part-item-in-start
-    part-item-in-end
-    item-in-requires
-    returns)
+pub returns : goal.returns
+returns c = let a = c.args in
+    read_there a.store.now a.half a.kind a.n c.place_at-at.result _ (λ j. (c.type_inv.store j).fits) (search rules)
+    (search rules) c.place_at-at.ensures c.item_in.ensures

@@ -7,8 +7,7 @@ use borrow.Author.Tests.{lt-ltb, le-ltb}
 use Rattle.rules.specs.Limits.{store_words, short_store, out_of_range}
 use Rattle.rules.specs.Calls.{done, heard}
 use Rattle.refusal.specs.Refusals.{refusal_of}
-use Rattle.refusal.proofs.done_refusal.Statement.{statement}
-use Rattle.refusal.proofs.done_refusal.Tie as tie
+use Rattle.refusal.proofs.done_refusal.Goals as goal
 
 module _ (ranged : Bool) (store : ℕ) where
   short_store_lem : store < store_words → short_store ≡ refusal_of (heard ranged (done store))
@@ -23,14 +22,11 @@ module _ (ranged : Bool) (store : ℕ) where
   unfolding heard
   passes long out = simp (le-ltb _ _ long, out)
 
-returns : tie.Need-returns
-returns c = search (short_store_lem, rules)
+pub returns-then-store_len-lt-STORE_WORDS : goal.returns-then-store_len-lt-STORE_WORDS
+returns-then-store_len-lt-STORE_WORDS c = search (short_store_lem, rules)
 
-returns-2 : tie.Need-returns-2
-returns-2 c = search (out_of_range_lem, rules)
+pub returns-then-not-ranged : goal.returns-then-not-ranged
+returns-then-not-ranged c = search (out_of_range_lem, rules)
 
-returns-3 : tie.Need-returns-3
-returns-3 c = search (passes, rules)
-
-pub done-refusal-spec : {M : Type 1} → statement M
-done-refusal-spec = tie.close (tie.spec returns returns-2 returns-3)
+pub returns : goal.returns
+returns c = search (passes, rules)

@@ -13,8 +13,7 @@ use Rattle.rules.specs.Calls.{refuses, request, message, heard, ours_or_all}
 use Rattle.message_table.specs.declared.Head.{Head}
 use Rattle.message_table.specs.Table.{is_read, target_of, kind_of, head_of}
 use Rattle.refusal.specs.Refusals.{refusal_of, request_of, room_refusal, is_for_us, HeadRead, heard_by, heard_by_lem, refused_first, room_found, room_passed}
-use Rattle.refusal.proofs.message_refusal.Statement.{statement}
-use Rattle.refusal.proofs.message_refusal.Tie as tie
+use Rattle.refusal.proofs.message_refusal.Goals as goal
 
 module _ (ranged : Bool) (system component : ℕ) (from : Station) (id : ℕ) (p : Bytes) (clock store reply first : ℕ)
     (by : first ≡ room_refusal ranged store reply) where
@@ -57,39 +56,17 @@ module _ (ranged : Bool) (system component : ℕ) (from : Station) (id : ℕ) (p
       passes : not (a && b) ≡ false → 0 ≡ refusal
       passes other = rw (rest none, not_empty, (rw known.is_read at is), (rw (ours, ours', heads) at other))
 
-room-refusal-requires : tie.Need-room-refusal-requires
-room-refusal-requires c κs = search rules
+pub returns-then-first-ne0 : goal.returns-then-first-ne0
+returns-then-first-ne0 c from id p clock sized known = search (earlier, rules)
 
-returns : tie.Need-returns
-returns c from id p clock sized known = search (earlier, rules)
+pub returns-then-payload_len-eq0 : goal.returns-then-payload_len-eq0
+returns-then-payload_len-eq0 c from id p clock sized known = search (empty_payload_lem, rules)
 
-returns-2 : tie.Need-returns-2
-returns-2 c from id p clock sized known = search (empty_payload_lem, rules)
+pub returns-then-not-read : goal.returns-then-not-read
+returns-then-not-read c from id p clock sized known = search (not_read_lem, rules)
 
-returns-3 : tie.Need-returns-3
-returns-3 c from id p clock sized known = search (not_read_lem, rules)
+pub returns-then-not-ours_or_all : goal.returns-then-not-ours_or_all
+returns-then-not-ours_or_all c from id p clock sized known = search (not_for_us_lem, rules)
 
-ours-or-all-requires : tie.Need-ours-or-all-requires
-ours-or-all-requires c κs = search rules
-
-ours-or-all-requires-2 : tie.Need-ours-or-all-requires-2
-ours-or-all-requires-2 c κs = search rules
-
-returns-4 : tie.Need-returns-4
-returns-4 c from id p clock sized known = search (not_for_us_lem, rules)
-
-returns-5 : tie.Need-returns-5
-returns-5 c from id p clock sized known = search (passes, rules)
-
-pub message-refusal-spec : {M : Type 1} → statement M
-message-refusal-spec =
-    tie.close
-    (tie.spec
-    room-refusal-requires
-    returns
-    returns-2
-    returns-3
-    ours-or-all-requires
-    ours-or-all-requires-2
-    returns-4
-    returns-5)
+pub returns : goal.returns
+returns c from id p clock sized known = search (passes, rules)

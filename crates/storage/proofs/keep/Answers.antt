@@ -17,8 +17,7 @@ use Rattle.places.specs.Places.{words_lawful, offset_within, sizes_short}
 use Rattle.places.specs.Writes.{put_at}
 use Rattle.storage.specs.Kept.{at_place, kept_fetched}
 use borrow.Author.Rules.{rules}
-use Rattle.storage.proofs.keep.Statement.{statement}
-use Rattle.storage.proofs.keep.Tie as tie
+use Rattle.storage.proofs.keep.Goals as goal
 
 put_there : (store after : Store) (half : Bool) (kind n at last : ℕ) (i : Item) → store_words ≤ length store → kind ≤ rally → n < size_of kind
     → Fits (item_int (station 0 0) 0 i) → at ≡ offset_of words half kind n → last ≡ last_word_of i.command i.frame i.autocontinue
@@ -31,31 +30,15 @@ put_there store after half kind n at last i long known below fits place ending i
     ∙ ap (λ (k : ℕ). put store k (words_of i)) place in
     (there, ap (λ (s : Store). item_in (item_at words s half kind n)) there ∙ kept_fetched i fits store half kind n long known below (omega (arith, sizes_short kind)))
 
--- what the struct's type says of its numbers
-item_fits : (c : tie.Start) → Fits (item_int (station 0 0) 0 (patterns c.args.item))
-unfolding layout_of
-item_fits c = search rules
-
-last-word-requires : tie.Need-last-word-requires
-last-word-requires c κs = search rules
-
-place-at-requires : tie.Need-place-at-requires
-place-at-requires c κs = search rules
-
-put-item-requires : tie.Need-put-item-requires
-put-item-requires c κs =
-    let a = c.before.before.before.before.args in
+pub put_item-requires : goal.put_item-requires
+put_item-requires c = let a = c.args in
     omega (arith, offset_within words words_lawful a.half a.kind a.n (search rules) (search rules))
 
-same_length : tie.Need-same-length
-same_length c = search rules
-
-returns : tie.Need-returns
+pub returns : goal.returns
+unfolding layout_of
 returns c =
-    let start = c.before.before.before.before.before.before.before in
-    let a = start.args in
-    put_there a.store.now _ a.half a.kind a.n c.before.before.before.place_at.result _ (patterns a.item) (search rules) (search rules) (search rules)
-    (item_fits start) c.before.before.before.place_at.ensures c.before.before.before.before.before.last_word.ensures c.before.before.put_item.ensures
-
-pub keep_spec : {M : Type 1} → statement M
-keep_spec = tie.close (tie.spec last-word-requires place-at-requires put-item-requires same_length returns)
+    let a = c.args in
+    -- what the struct's type says of its numbers
+    let fits : Fits (item_int (station 0 0) 0 (patterns a.item)) = search rules in
+    put_there a.store.now _ a.half a.kind a.n c.place_at.result _ (patterns a.item) (search rules) (search rules) (search rules)
+    fits c.place_at.ensures c.last_word-last.ensures c.put_item.ensures

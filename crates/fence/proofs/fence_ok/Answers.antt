@@ -20,8 +20,7 @@ use Rattle.places.specs.Forms.{Store, words, item_at, items_in, offset_of}
 use Rattle.places.specs.Places.{words_lawful, offset_within}
 use Rattle.places.specs.Stored.{with_command, command_is, param1_is, points_are}
 use Rattle.fence.specs.FenceReading.{reading_of, read_as, reads_more, between_is}
-use Rattle.fence.proofs.fence_ok.Statement.{statement}
-use Rattle.fence.proofs.fence_ok.Tie as tie
+use Rattle.fence.proofs.fence_ok.Goals as goal
 
 -- a turn of the loop, with the callees' answers as variables
 turned : (store : Store) (half : Bool) (i at command bits : ℕ) (x : Float) (m : ℕ) (r next : Reading)
@@ -53,68 +52,35 @@ judged store half n i points r most least er ep =
     let read : reading_of r ≡ read_items between items = er ∙ ap (λ (k : ℕ). read_items between (items_in words store half fence k)) (omega arith) in
     rw (between_is r, read, ep, points_are items)
 
-abbrev invariant-loop : tie.invariant-loop
-invariant-loop store half n reading₀ i₀ reading i = (i ≤ n) × (reading_of reading ≡ read_items between (items_in words store half fence i))
-
-abbrev decreases-loop : tie.decreases-loop
-decreases-loop store half n reading₀ i₀ reading i = n - i
-
-loop-holds : tie.Need-loop-init invariant-loop decreases-loop
+pub loop-i-init : goal.loop-i-init
 unfolding reading_of run_with read_items items_in
-loop-holds c = (omega arith, refl)
+loop-i-init c = (omega arith, refl)
 
-place-at-requires : tie.Need-place-at-requires invariant-loop decreases-loop
-place-at-requires c κs = omega arith
+pub place_at-at-requires : goal.place_at-at-requires
+place_at-at-requires c = omega arith
 
-command-at-requires : tie.Need-command-at-requires invariant-loop decreases-loop
-command-at-requires c κs =
-    let a = c.before.before.before.before.args in
-    omega (arith, offset_within words words_lawful a.half fence c.before.before.loop.i (omega arith) (omega arith))
+pub command_at-requires : goal.command_at-requires
+command_at-requires c = let a = c.args in
+    omega (arith, offset_within words words_lawful a.half fence c.loop-i.i (omega arith) (omega arith))
 
-param1-at-requires : tie.Need-param1-at-requires invariant-loop decreases-loop
-param1-at-requires c κs =
-    let a = c.before.before.before.before.before.args in
-    omega (arith, offset_within words words_lawful a.half fence c.before.before.before.loop.i (omega arith) (omega arith))
+pub param1_at-requires : goal.param1_at-requires
+param1_at-requires c = let a = c.args in
+    omega (arith, offset_within words words_lawful a.half fence c.loop-i.i (omega arith) (omega arith))
 
-float-of-requires : tie.Need-float-of-requires invariant-loop decreases-loop
-float-of-requires c κs = tt
+pub float_of-requires : goal.float_of-requires
+float_of-requires c = tt
 
-number-of-requires : tie.Need-number-of-requires invariant-loop decreases-loop
-number-of-requires c κs = tt
+pub number_of-requires : goal.number_of-requires
+number_of-requires c = tt
 
-read-item-requires : tie.Need-read-item-requires invariant-loop decreases-loop
-read-item-requires c κs = tt
+pub read_item-reading-requires : goal.read_item-reading-requires
+read_item-reading-requires c = tt
 
-add-i : tie.Need-overflow-add-i invariant-loop decreases-loop
-add-i c = omega arith
+pub loop-i-smaller : goal.loop-i-smaller
+loop-i-smaller c = omega arith
 
-loop-less : tie.Need-loop-smaller invariant-loop decreases-loop
-loop-less c = omega arith
+pub loop-i-preserved : goal.loop-i-preserved
+loop-i-preserved c = (omega arith, search (turned, rules))
 
-loop-again : tie.Need-loop-preserved invariant-loop decreases-loop
-loop-again c = (omega arith, search (turned, rules))
-
-with-command-requires : tie.Need-with-command-requires invariant-loop decreases-loop
-with-command-requires c κs = search rules
-
-returns : tie.Need-returns invariant-loop decreases-loop
+pub returns : goal.returns
 returns c = search (judged, rules)
-
-pub fence-ok-spec : {M : Type 1} → statement M
-fence-ok-spec =
-    tie.close
-    (tie.spec
-    invariant-loop
-    decreases-loop
-    loop-holds
-    place-at-requires
-    command-at-requires
-    param1-at-requires
-    float-of-requires
-    number-of-requires
-    read-item-requires
-    add-i
-    loop-less
-    loop-again
-    with-command-requires
-    returns)

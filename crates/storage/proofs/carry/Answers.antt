@@ -10,34 +10,19 @@ use Rattle.places.specs.Part.{part, put}
 use Rattle.places.specs.Forms.{Store, words, offset_of}
 use Rattle.places.specs.Places.{words_lawful, offset_within}
 use Rattle.places.specs.Carried.{carried_at}
-use Rattle.storage.proofs.carry.Statement.{statement}
-use Rattle.storage.proofs.carry.Tie as tie
+use Rattle.storage.proofs.carry.Goals as goal
 
 put_over : (store after : Store) (half : Bool) (kind n from to : ℕ) (item : List ℕ) → from ≡ offset_of words half kind n → item ≡ part store from item_words
     → to ≡ offset_of words (not half) kind n → after ≡ put store to item → after ≡ carried_at words store half kind n
 put_over store after half kind n from to item there read place is = is ∙ ap₂ (put store) place (read ∙ ap (λ (k : ℕ). part store k item_words) there)
 
-place-at-requires : tie.Need-place-at-requires
-place-at-requires c κs = search rules
-
-words-at-requires : tie.Need-words-at-requires
-words-at-requires c κs =
-    let a = c.before.before.before.args in
+pub words_at-item-requires : goal.words_at-item-requires
+words_at-item-requires c = let a = c.args in
     omega (arith, offset_within words words_lawful a.half a.kind a.n (search rules) (search rules))
 
-place-at-requires-2 : tie.Need-place-at-requires-2
-place-at-requires-2 c κs = search rules
-
-put-item-requires : tie.Need-put-item-requires
-put-item-requires c κs =
-    let a = c.before.before.before.before.before.before.args in
+pub put_item-requires : goal.put_item-requires
+put_item-requires c = let a = c.args in
     omega (arith, offset_within words words_lawful (not a.half) a.kind a.n (search rules) (search rules))
 
-same_length : tie.Need-same-length
-same_length c = search rules
-
-returns : tie.Need-returns
+pub returns : goal.returns
 returns c = search (put_over, rules)
-
-pub carry-spec : {M : Type 1} → statement M
-carry-spec = tie.close (tie.spec place-at-requires words-at-requires place-at-requires-2 put-item-requires same_length returns)

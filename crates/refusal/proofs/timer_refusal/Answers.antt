@@ -7,8 +7,7 @@ use borrow.Author.Tests.{lt-leb, le-leb}
 use Rattle.rules.specs.Limits.{rally, not_read}
 use Rattle.rules.specs.Calls.{timer, heard}
 use Rattle.refusal.specs.Refusals.{refusal_of, room_refusal, refused_first, room_found, room_passed}
-use Rattle.refusal.proofs.timer_refusal.Statement.{statement}
-use Rattle.refusal.proofs.timer_refusal.Tie as tie
+use Rattle.refusal.proofs.timer_refusal.Goals as goal
 
 module _ (ranged : Bool) (kind clock store reply first : ℕ) (by : first ≡ room_refusal ranged store reply) where
   earlier : (first ≡ 0 → ⊥) → first ≡ refusal_of (heard ranged (timer kind clock store reply))
@@ -23,17 +22,11 @@ module _ (ranged : Bool) (kind clock store reply first : ℕ) (by : first ≡ ro
   unfolding heard
   passes none known = rw (room_passed ranged store reply _ (room_found ranged store reply (sym by ∙ none)), le-leb _ _ known)
 
-room-refusal-requires : tie.Need-room-refusal-requires
-room-refusal-requires c κs = search rules
+pub returns-then-first-ne0 : goal.returns-then-first-ne0
+returns-then-first-ne0 c clock = search (earlier, rules)
 
-returns : tie.Need-returns
-returns c clock = search (earlier, rules)
+pub returns : goal.returns
+returns c clock = passes _ _ _ _ _ _ c.room_refusal-first.ensures c.if-first-ne0.false c.if-kind-gt-RALLY.false
 
-returns-3 : tie.Need-returns-3
-returns-3 c clock = passes _ _ _ _ _ _ c.before.before.room-refusal.ensures c.before.if1.false c.if2.false
-
-returns-2 : tie.Need-returns-2
-returns-2 c clock = search (no_kind, rules)
-
-pub timer-refusal-spec : {M : Type 1} → statement M
-timer-refusal-spec = tie.close (tie.spec room-refusal-requires returns returns-2 returns-3)
+pub returns-then-kind-gt-RALLY : goal.returns-then-kind-gt-RALLY
+returns-then-kind-gt-RALLY c clock = search (no_kind, rules)

@@ -8,8 +8,7 @@ use Rattle.item.specs.declared.Item.{Item}
 use Rattle.item.specs.Patterns.{item_for, patterns, patterns_of, values_of}
 use Rattle.fields.specs.Numbers.{number_one}
 use borrow.Author.Rules.{rules}
-use Rattle.wire.proofs.read.read_item_int.Statement.{statement}
-use Rattle.wire.proofs.read.read_item_int.Tie as tie
+use Rattle.wire.proofs.read.read_item_int.Goals as goal
 
 -- each field is the number at its offset, and the item is made of its patterns
 from_own : (own : Bytes) (item : Item) → item ≡ item_for (item_in own)
@@ -18,27 +17,5 @@ unfolding decode message_of layout_of values item_in
 from_own own item made =
     (λ i. item_int (station (sym (number_one 32 own) i) (sym (number_one 33 own) i)) (sym (number_one 35 own) i) (patterns_of made i), values_of made)
 
-returns : tie.Need-returns
+pub returns : goal.returns
 returns c = search (from_own, rules)
-
-item-at-requires : tie.Need-item-at-requires
-item-at-requires c κs = search rules
-
-element-copy-out-t7 : tie.Need-element-copy-out-t7
-element-copy-out-t7 c = search rules
-
-element-copy-out-t10 : tie.Need-element-copy-out-t10
-element-copy-out-t10 c = search rules
-
-element-copy-out-t13 : tie.Need-element-copy-out-t13
-element-copy-out-t13 c = search rules
-
-pub read-item-int-spec : {M : Type 1} → statement M
-read-item-int-spec =
-    tie.close
-    (tie.spec
-    item-at-requires
-    element-copy-out-t7
-    element-copy-out-t10
-    element-copy-out-t13
-    returns)

@@ -9,8 +9,7 @@ use Rattle.rules.specs.Items.{inclusion_vertex, exclusion_vertex}
 use Rattle.rules.specs.Fence.{run_with}
 use Rattle.fence.specs.declared.Reading.{Reading}
 use Rattle.fence.specs.FenceReading.{broken_reading, reading_of, read_as}
-use Rattle.fence.proofs.read_item.Statement.{statement}
-use Rattle.fence.proofs.read_item.Tie as tie
+use Rattle.fence.proofs.read_item.Goals as goal
 
 abbrev vertex : ℕ → Bool
 vertex command = eqb command inclusion_vertex || eqb command exclusion_vertex
@@ -44,47 +43,20 @@ module _ (r : Reading) (command m : ℕ) where
   unfolding reading_of read_as run_with
   stops b eb el ev is = simp (is, eb, ne_eqb _ _ el, ev)
 
-returns : tie.Need-returns
-returns c = search (stays, rules)
+pub returns-then-reading : goal.returns-then-reading
+returns-then-reading c = search (stays, rules)
 
-returns-2 : tie.Need-returns-2
-returns-2 c = search (passes_over, rules)
+pub returns-then-not-vertex : goal.returns-then-not-vertex
+returns-then-not-vertex c = search (passes_over, rules)
 
-broken-requires : tie.Need-broken-requires
-broken-requires c κs = search rules
+pub returns-then-vertices-eq0 : goal.returns-then-vertices-eq0
+returns-then-vertices-eq0 c = search (breaks, rules)
 
-returns-3 : tie.Need-returns-3
-returns-3 c = search (breaks, rules)
+pub returns-then-reading-eq0 : goal.returns-then-reading-eq0
+returns-then-reading-eq0 c = search (opens, rules)
 
-sub-t8 : tie.Need-overflow-sub-t8
-sub-t8 c = search rules
+pub returns-then-vertex-command : goal.returns-then-vertex-command
+returns-then-vertex-command c = search (goes_on, rules)
 
-returns-4 : tie.Need-returns-4
-returns-4 c = search (opens, rules)
-
-sub-t11 : tie.Need-overflow-sub-t11
-sub-t11 c = search rules
-
-returns-5 : tie.Need-returns-5
-returns-5 c = search (goes_on, rules)
-
-broken-requires-2 : tie.Need-broken-requires-2
-broken-requires-2 c κs = search rules
-
-returns-6 : tie.Need-returns-6
-returns-6 c = search (stops, rules)
-
-pub read-item-spec : {M : Type 1} → statement M
-read-item-spec =
-    tie.close
-    (tie.spec
-    returns
-    returns-2
-    broken-requires
-    returns-3
-    sub-t8
-    returns-4
-    sub-t11
-    returns-5
-    broken-requires-2
-    returns-6)
+pub returns : goal.returns
+returns c = search (stops, rules)
