@@ -1,4 +1,6 @@
 // The steps of one kind's upload, what they do to the state, and what is said back. Everything here speaks of one plan at a time; its kind does not matter.
+#![tactic(auto)]
+
 use plan::Plan;
 
 mod counters;
