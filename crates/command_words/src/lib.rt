@@ -1,4 +1,6 @@
 // A command in words: what it is, its item's number, and its values.
+#![tactic(auto)]
+
 ghost use Rattle.std.specs.Prelude.{◌≡◌, [], ◌∷◌, ◌++◌, take};
 ghost use Rattle.std.specs.Float.{binary32};
 ghost use Rattle.std.specs.Float.Ieee.{to_bits};
@@ -31,7 +33,7 @@ fn words() -> [u8; LETTERS]
 }
 
 // What is told of a command: a part of the words, the first numbers of a list, and the first bytes of a value.
-#[derive(Drop)]
+#[derive(Clone, Copy)]
 struct Answer {
     from: usize,
     letters: usize,

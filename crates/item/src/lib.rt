@@ -1,5 +1,7 @@
 // The mission item as a struct by value, made of patterns, its numbers, and its 38 bytes. The values of its fields are read by the crate values; judging it
 // is left to item_rules.
+#![tactic(auto)]
+
 mod payload;
 
 ghost use Rattle.std.specs.Prelude.{◌≡◌};
@@ -13,7 +15,7 @@ pub use payload::{item_at, item_bytes};
 use values::Whole;
 
 // Params, x, y and z as values, with their 32-bit patterns beside them: a NaN's bits do not survive an f32.
-#[derive(Drop)]
+#[derive(Clone, Copy)]
 pub struct Item {
     pub param1: f32,
     pub param2: f32,

@@ -1,5 +1,7 @@
 // Call scripts: the record that stands next, read from the bytes that are left. A record is a header of 24 bytes and a payload; its numbers
 // are little-endian.
+#![tactic(auto)]
+
 ghost use Rattle.std.specs.Prelude.{◌≡◌, ◌≤◌, length};
 ghost use Rattle.script.specs.Records.{header_bytes, record_in, poke_fits, words_fit, items_fit, bytes_fit, write_fits, fits as Records·fits, next_in};
 
@@ -60,7 +62,7 @@ pub const REPLY_ARRAY: usize = 64;
 const STORED_BYTES: usize = ITEM_WORDS * WORD_BYTES;
 
 // A record's header; store and reply are the lengths lent to the call.
-#[derive(Drop)]
+#[derive(Clone, Copy)]
 pub struct Record {
     pub kind: u8,
     pub b0: u8,
@@ -77,7 +79,7 @@ pub struct Record {
 
 // What stands next in a script: a record whose payload follows its header, the end, a record that the end of input cuts, or one that cannot
 // be played, with its type.
-#[derive(Drop)]
+#[derive(Clone, Copy)]
 pub enum Next {
     Play(Record),
     End,

@@ -6,7 +6,7 @@ use adding::within;
 use std::io::Read;
 
 // The part of a buffer that is read and not yet used.
-#[derive(Drop)]
+#[derive(Clone, Copy)]
 pub struct Unread {
     pub at: usize,
     pub end: usize,

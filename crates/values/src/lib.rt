@@ -1,5 +1,7 @@
 // The values of params and coordinates: what their bit patterns stand for, and floats as whole numbers. The tests that the item rules make of floats are the
 // crate float_tests'.
+#![tactic(auto)]
+
 ghost use Rattle.std.specs.Prelude.{◌≡◌};
 ghost use Rattle.rules.specs.Values.{signed, float, whole_of, whole_number};
 ghost use Rattle.values.specs.Wholes.{meant};
@@ -27,7 +29,7 @@ pub fn signed_of(bits: u32) -> i32
 }
 
 // An exact reading: a whole number of 32 signed bits, no value (NaN), or neither.
-#[derive(Drop)]
+#[derive(Clone, Copy)]
 pub enum Whole {
     Integer(i32),
     NoValue,
