@@ -1,5 +1,7 @@
 -- `script::next_record` meets its contract, for each way that its tests can go.
 use Rattle.script.proofs.Ways.{ends, cuts_header, ends_by_record, bad, cuts_payload, plays}
+use mathlib.Core.Path.{ap}
+use mathlib.Core.Bool.{not}
 use borrow.Author.Rules.{rules}
 use Rattle.script.proofs.next_record.Goals as goal
 
@@ -19,4 +21,5 @@ pub returns-then-bytes-r : goal.returns-then-bytes-r
 returns-then-bytes-r c = search (cuts_payload, rules)
 
 pub returns : goal.returns
-returns c = plays c.args.bytes.now c.if-bytes-eq0.false c.if-bytes-lt-HEADER_BYTES.false c.record_in-r.result c.record_in-r.ensures c.if-r-eq-END.false c.UNKNOWN.fits2.result c.UNKNOWN.fits2.ensures c.if-not-fits.false c.if-bytes-r.false
+returns c =
+    plays c.args.bytes.now c.if-bytes-eq0.false c.if-bytes-lt-HEADER_BYTES.false c.record_in-r.result c.record_in-r.ensures c.if-r-eq-END.false c.fits.result c.fits.ensures (ap not c.if-not-fits.false) c.if-bytes-r.false

@@ -68,7 +68,7 @@ pub returns-then-not-positional : goal.returns-then-not-positional
 returns-then-not-positional c = search (elsewhere, rules)
 
 pub returns-then-item : goal.returns-then-item
-returns-then-item c = x_fault _ _ _ c.requires c.if-not-positional.false (search rules) c.if-item.true
+returns-then-item c = x_fault c.args.positional _ _ c.requires (ap not c.if-not-positional.false) (search rules) c.if-item.true
 
 pub returns-then-item-2 : goal.returns-then-item-2
 returns-then-item-2 c = search (y_fault, rules)

@@ -16,6 +16,7 @@ use Rattle.rules.specs.Items.{Row, commands, waypoint, return_home, delay, dista
 use Rattle.item_rules.specs.Table.{lookup, looked_up, no_row}
 use Rattle.item_rules.specs.declared.table.Listing.{Listing}
 use Rattle.item_rules.proofs.table.row_of.Goals as goal
+use Rattle.item_rules.proofs.table.row_of.Goals.{in-16-1, in-17-1, in_default+else-command-lt16+then-command-lt20, in_default+else-command-lt16+else-command-lt20+then-command-lt23}
 
 -- looking the command n up finds what l says
 abbrev Agrees : Bool → Listing → ℕ → Type 0
@@ -124,32 +125,48 @@ returns-in-5100 c = at _ c.listed_as-in-5100.ensures c.in-5100.is refl
 
 pub returns-in-5001-to-5002 : goal.returns-in-5001-to-5002
 unfolding lookup
-returns-in-5001-to-5002 c = within _ 5001 2 c.listed_as-in-5001-to-5002.ensures (past c.if-command-lt5000.false c.in_default-1.rest tt) c.if-command-lt5003.true (refl, (refl, tt))
+returns-in-5001-to-5002 c =
+    let w = c.in-5001-to-5002 in
+    within _ 5001 2 c.listed_as-in-5001-to-5002.ensures (past w.if-command-lt5000-own.false w.in_default-own.rest tt) w.if-command-lt5003-own.true (refl, (refl, tt))
 
 pub returns-in-5003-to-5004 : goal.returns-in-5003-to-5004
 unfolding lookup
-returns-in-5003-to-5004 c = within _ 5003 2 c.listed_as-in-5003-to-5004.ensures c.if-command-lt5003.false c.if-command-lt5005.true (refl, (refl, tt))
+returns-in-5003-to-5004 c =
+    let w = c.in-5003-to-5004 in
+    within _ 5003 2 c.listed_as-in-5003-to-5004.ensures w.if-command-lt5003-own.false w.if-command-lt5005-own.true (refl, (refl, tt))
 
 pub returns-in_default : goal.returns-in_default
 unfolding lookup
-returns-in_default c = unlisted c.args.command 0 16 (omega arith) c.if-command-lt16.true c.in_default-1.rest (commands c.args.home) tt
+returns-in_default c =
+    let w = c.in_default in
+    unlisted c.args.command 0 16 (omega arith) w.if-command-lt16-own.true w.in_default-own.rest (commands c.args.home) tt
 
 pub returns-in_default-2 : goal.returns-in_default-2
 unfolding lookup
-returns-in_default-2 c = let rest = c.in_default-1.rest in
-    unlisted c.args.command 23 5000 c.if-command-lt23.false c.if-command-lt5000.true rest (commands c.args.home) tt
+returns-in_default-2 c =
+    let w = c.in_default in
+    unlisted c.args.command 23 5000 w.if-command-lt23-own.false w.if-command-lt5000-own.true w.in_default-own.rest (commands c.args.home) tt
 
 pub returns-in_default-3 : goal.returns-in_default-3
 unfolding lookup
-returns-in_default-3 c = let rest = c.in_default-1.rest in
-    unlisted c.args.command 5005 65536 c.if-command-lt5005.false (omega arith) rest (commands c.args.home) tt
+returns-in_default-3 c =
+    let w = c.in_default in
+    unlisted c.args.command 5005 65536 w.if-command-lt5005-own.false (omega arith) w.in_default-own.rest (commands c.args.home) tt
 
 pub returns-in-17 : goal.returns-in-17
 unfolding lookup
-returns-in-17 c = ⊎_elim (λ k. ⊎_elim (λ h. at _ c.listed_as-in-17.ensures h refl) (λ h. at _ c.listed_as-in-17.ensures h refl) k.keys2)
-    (λ k. within _ 21 2 c.listed_as-in-17.ensures (past k.2.left k.0.rest tt) k.3.taken (refl, (refl, tt))) c.in-17-1.branch
+returns-in-17 c =
+    elim c.in-17-1.branch [
+      | in-17-1 w ↦ ⊎_elim (λ h. at _ c.listed_as-in-17.ensures h refl) (λ h. at _ c.listed_as-in-17.ensures h refl) w.in-17-1.keys2
+      | in_default+else-command-lt16+else-command-lt20+then-command-lt23 w ↦
+          within _ 21 2 c.listed_as-in-17.ensures (past w.if-command-lt20-1.false w.in_default-1.rest tt) w.if-command-lt23-1.true (refl, (refl, tt))
+    ]
 
 pub returns-in-16 : goal.returns-in-16
 unfolding lookup
-returns-in-16 c = ⊎_elim (λ k. at _ c.listed_as-in-16.ensures k.keys1 refl)
-    (λ k. within _ 18 2 c.listed_as-in-16.ensures (past (past k.1.left k.0.rest tt) k.0.rest tt) k.2.taken (refl, (refl, tt))) c.in-16-1.branch
+returns-in-16 c =
+    elim c.in-16-1.branch [
+      | in-16-1 w ↦ at _ c.listed_as-in-16.ensures w.in-16-1.keys1 refl
+      | in_default+else-command-lt16+then-command-lt20 w ↦
+          within _ 18 2 c.listed_as-in-16.ensures (past (past w.if-command-lt16-1.false w.in_default-1.rest tt) w.in_default-1.rest tt) w.if-command-lt20-1.true (refl, (refl, tt))
+    ]
