@@ -100,14 +100,14 @@ fn with(path: &Path) -> impl Fn(io::Error) -> String + '_ {
 }
 
 impl Programs {
-    /// The console that `rt check console` builds, and the program that is built beside this one.
+    /// The console that `rt ci` or `rt run` builds, and the program that is built beside this one.
     pub fn new() -> Result<Programs, String> {
         let root = Path::new(env!("CARGO_MANIFEST_DIR")).join("..");
         let this = std::env::current_exe().map_err(|error| error.to_string())?;
         let folder = std::env::temp_dir().join(format!("bench-replay-{}", std::process::id()));
         fs::create_dir_all(&folder).map_err(with(&folder))?;
         Ok(Programs {
-            ours: root.join("target/bin/console"),
+            ours: root.join("crates/console/out/console"),
             plain: this.with_file_name("plain_console"),
             folder,
         })

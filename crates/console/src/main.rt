@@ -1,4 +1,6 @@
 // Plays a call script from standard input over the service: makes its calls, and prints their lines.
+#![tactic(auto)]
+
 mod play;
 
 use script::{HEADER_BYTES, MOST_PAYLOAD, Next, OLD_ARRAY, STORE_ARRAY};
@@ -15,7 +17,9 @@ const MOST_LINES: usize = 61440;
 const OUTPUT: usize = 131072;
 
 // A proved loop has to end, and nothing says that a script does. So the turns are counted down, from a number that no run uses up.
-fn main() {
+fn main(rt: HostRuntime) {
+    let mut stdin = rt.stdin();
+    let mut stdout = rt.stdout();
     let mut input_array = [0u8; INPUT];
     let mut out_array = [0u8; OUTPUT];
     let input: &mut [u8] = &mut input_array;
@@ -32,8 +36,8 @@ fn main() {
     let mut at: usize = 0;
     let mut turns = u64::MAX;
     while 0 < turns {
-        unread = streams::read_on(input, unread.at, unread.end, MOST_RECORD);
-        at = streams::send(out, at, MOST_LINES);
+        unread = streams::read_on(&mut stdin, input, unread.at, unread.end, MOST_RECORD);
+        at = streams::send(&mut stdout, out, at, MOST_LINES);
         let bytes = text::part(input, unread.at, play::left(unread));
         let next = script::next_record(bytes);
         at = lines::put_stop(out, at, next);
@@ -82,5 +86,5 @@ fn main() {
         }
         turns -= 1;
     }
-    streams::send(out, at, usize::MAX);
+    streams::send(&mut stdout, out, at, usize::MAX);
 }

@@ -136,7 +136,7 @@ fn same(
     old_copy: &[u8; OLD_ARRAY],
 ) -> bool {
     if r.b4 == script::OLD {
-        return check::same(old, old_copy);
+        return *old == *old_copy;
     }
     writing::same_words(store, copy)
 }

@@ -1,5 +1,7 @@
 // What a program in another language links: functions by C's conventions over numbers and lent slices, a slice as its address and its length. None asks anything
 // of its caller but what the types say, that the slices are there and share no memory.
+#![tactic(auto)]
+
 ghost use Rattle.std.specs.Prelude.{◌≡◌, length};
 ghost use Rattle.rules.specs.Payload.{trim};
 ghost use Rattle.rules.specs.Layouts.{layout_of, statustext_id, text_chars};

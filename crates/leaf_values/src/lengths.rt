@@ -10,7 +10,7 @@ fn agrees(id: u32, p: &[u8], full: usize) -> bool {
     let own = text::part(p, 0, full);
     let mut wanted = [BEFORE; 60];
     writing::write(&mut wanted, 0, own);
-    (list[1] == own.len() as u64) & check::same(&bytes, &wanted)
+    (list[1] == own.len() as u64) & (bytes == wanted)
 }
 
 // For how many lengths that holds.

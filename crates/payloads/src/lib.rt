@@ -1,4 +1,6 @@
 // The bytes of each message that is written here but ITEM_INT, all of them, little-endian.
+#![tactic(auto)]
+
 ghost use Rattle.std.specs.Prelude.{◌≡◌};
 ghost use Rattle.rules.specs.Step.{refusal_text};
 ghost use Rattle.wire.specs.Structs.{current_message, count_message, ack_message, request_int_message, statustext_message};

@@ -1,5 +1,7 @@
 // Writing each message into a lent buffer: the trimmed payload at its start, the rest unchanged, the length answered; it reads back as the
 // message. A buffer that is shorter than the message's full length stays as it is.
+#![tactic(auto)]
+
 ghost use Rattle.rules.specs.Layouts.{layout_of, text_chars};
 ghost use Rattle.rules.specs.Messages.{statustext};
 ghost use Rattle.trimming.specs.Written.{Written};

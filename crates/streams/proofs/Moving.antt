@@ -11,7 +11,6 @@ use lib.ListN.{length, take, drop, get_or, set, length-append, length-take, leng
 use lib.Seq.{take-suc, take-suc-set, take-take, length-take-le, take-length, get_or-drop, drop-drop, drop-set-lt}
 use borrow.Rule.Slice.PartMut.{put_mid, take_put}
 use borrow.Author.Tests.{leb-true, leb-false, le-leb, lt-leb}
-use Rattle.io.specs.Counts.{IsPrefixLen}
 use Rattle.adding.specs.Parts.{front_again}
 use Rattle.streams.specs.Unread.{unread, Moved, ReadBehind, ReadOn}
 
@@ -84,12 +83,12 @@ pub fits_behind : (before after : List ℕ) (at end r : ℕ) → Moved before at
 fits_behind before after at end r moved = omega (arith, moved.count, moved.room, length-take (end - at) (drop at before), length-drop at before)
 
 -- the part behind the kept bytes, put back with what was read
-pub read_behind : (before part : List ℕ) (at r : ℕ) → at ≤ length before → length (put_mid at (length before - at) before part) ≡ length before → IsPrefixLen r part → ReadBehind before at (put_mid at (length before - at) before part) r
+pub read_behind : (before part : List ℕ) (at r : ℕ) → at ≤ length before → length (put_mid at (length before - at) before part) ≡ length before → r ≤ length part → ReadBehind before at (put_mid at (length before - at) before part) r
 read_behind before part at r h room counts =
     let post = drop (length before - at) (drop at before) in
     record {
       front = take_put at (length before - at) before part h;
-      inside = omega (arith, counts.0, length-append (take at before) (part ++ post), length-append part post, length-take-le at before h);
+      inside = omega (arith, counts, length-append (take at before) (part ++ post), length-append part post, length-take-le at before h);
       room = room;
     }
 

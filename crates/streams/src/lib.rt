@@ -1,4 +1,6 @@
 // Standard output from a buffer, and standard input into one, in pieces.
+#![tactic(auto)]
+
 mod reading;
 mod sending;
 

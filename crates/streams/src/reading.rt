@@ -1,8 +1,9 @@
-// Standard input in pieces, into a buffer.
+// Input in pieces, into a buffer.
 ghost use Rattle.std.specs.Prelude.{◌+◌, ◌≤◌, ◌≡◌, ◌&&◌, leb, length};
 ghost use Rattle.streams.specs.Unread.{Moved, ReadBehind, ReadOn};
 
 use adding::within;
+use std::io::Read;
 
 // The part of a buffer that is read and not yet used.
 #[derive(Clone, Copy)]
@@ -28,12 +29,37 @@ fn move_front(buffer: &mut [u8], at: usize, end: usize) -> usize
     n
 }
 
-// Standard input goes into the buffer from a place on, as far as there is room or input. How many bytes came.
-fn read_behind(buffer: &mut [u8], at: usize) -> usize
+// One read, for which a failed one gives no bytes, as the input's end does.
+fn read_some<R: Read>(input: &mut R, buffer: &mut [u8]) -> usize
+    ensures { result ≤ length buffer.new }
+{
+    match input.read(buffer) {
+        Ok(n) => n,
+        Err(_) => 0,
+    }
+}
+
+// The input goes into the buffer from its start on, until it is full, or the input ends or fails. How many bytes came.
+fn read_full<R: Read>(input: &mut R, buffer: &mut [u8]) -> usize
+    ensures { result ≤ length buffer.new }
+{
+    let mut done = 0;
+    while done < buffer.len() {
+        let n = read_some(input, &mut buffer[done..]);
+        if n == 0 {
+            break;
+        }
+        done += n;
+    }
+    done
+}
+
+// The input goes into the buffer from a place on, as far as there is room or input. How many bytes came.
+fn read_behind<R: Read>(input: &mut R, buffer: &mut [u8], at: usize) -> usize
     requires { at ≤ length buffer.old }
     ensures { ReadBehind buffer.old at buffer.new result }
 {
-    io::read_full(0, &mut buffer[at..])
+    read_full(input, &mut buffer[at..])
 }
 
 // Whether n bytes are unread.
@@ -46,16 +72,16 @@ fn enough(buffer: &[u8], at: usize, end: usize, n: usize) -> bool
     (n <= end - at) & (end <= buffer.len())
 }
 
-// Unless n bytes are unread, those that are go to the buffer's start, and standard input is read behind them: as much as there is room
-// for, or all that is left of it.
-pub fn read_on(buffer: &mut [u8], at: usize, end: usize, n: usize) -> Unread
+// Unless n bytes are unread, those that are go to the buffer's start, and the input is read behind them: as much as there is room
+// for, or all that is left of it. A failed read is the input's end.
+pub fn read_on<R: Read>(input: &mut R, buffer: &mut [u8], at: usize, end: usize, n: usize) -> Unread
     ensures { ReadOn buffer.old at end n buffer.new result.at result.end }
 {
     if enough(buffer, at, end, n) {
         return Unread { at, end };
     }
     let kept = move_front(buffer, at, end);
-    let more = read_behind(buffer, kept);
+    let more = read_behind(input, buffer, kept);
     Unread {
         at: 0,
         end: kept + more,

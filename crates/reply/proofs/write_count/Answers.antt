@@ -1,0 +1,14 @@
+-- `reply::write_count` meets its contract: its bytes are the message's, they are written trimmed, and they read back.
+use Rattle.rules.specs.Layouts.{layout_of}
+use Rattle.wire.specs.Structs.{count_message}
+use Rattle.reply.proofs.Packing.{ready, wrote_as}
+use Rattle.reply.proofs.write_count.Goals as goal
+
+pub write_trimmed-requires : goal.write_trimmed-requires
+unfolding layout_of
+write_trimmed-requires c = let a = c.args in
+    let r = ready (count_message a.m) c.count_bytes-bytes.result tt c.count_bytes-bytes.ensures in record { bytes_len = r.0; bytes_nonzero = r.1 }
+
+pub returns : goal.returns
+returns c = let a = c.args in
+    wrote_as (count_message a.m) _ a.out.now _ _ c.count_bytes-bytes.ensures c.write_trimmed.ensures
