@@ -11,7 +11,7 @@ use Rattle.rules.specs.Words.{words_of}
 use Rattle.rule_laws.specs.Tests.{neither, outside}
 use Rattle.rule_laws.specs.Words.{length_words_of}
 use Rattle.places.specs.Forms.{Store, words, bytes, least, offset_of, item_at, items_in, length_items}
-use Rattle.places.specs.Places.{words_lawful}
+use Rattle.places.proofs.Lawful.{words_lawful}
 use Rattle.places.specs.Writes.{put_at, other_kind, Leaves, leaves_same, leaves_both, leaves_wider, put_leaves, items_left, items_more}
 use Rattle.plan.specs.declared.State.{State}
 use Rattle.plan.specs.declared.Plan.{Plan}
