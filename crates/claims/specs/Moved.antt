@@ -14,7 +14,7 @@ use Rattle.plan.specs.View.{view}
 use Rattle.refine.specs.Items.{len_ranged}
 use Rattle.moves.specs.Moves.{MovesToWords, moved}
 use Rattle.moves.specs.Outcome.{movable}
-use Rattle.moves.specs.Same.{moved_same}
+use Rattle.moves.proofs.Same.{moved_same}
 use Rattle.claims.specs.Demand3.{Got}
 use Rattle.claims.specs.Service.{World, shows}
 use Rattle.claims.specs.Existence.{AllLent, trace_exists}
