@@ -100,6 +100,8 @@ limited true (suc m) k n e d v = rw (eqb-suc-zero m)
 
 pub zero_to_is : (n : ℕ) (y : Float) → HasValue y false n 1 → (x : Float) → (le (fin false 0 (pos 0)) x && le x y) ≡ zero_to n x
 unfolding lt le eq zero_to
+zero_to_is n nan v _ = elim v [ ]
+zero_to_is n (inf _) v _ = elim v [ ]
 zero_to_is n (fin t k d) v nan = refl
 zero_to_is n (fin t k d) v (inf true) = refl
 zero_to_is n (fin t k d) v (inf false) = refl

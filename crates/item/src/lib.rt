@@ -1,5 +1,7 @@
 // The mission item as a struct by value, made of patterns, its numbers, and its 38 bytes. The values of its fields are read by the crate values; judging it
 // is left to item_rules.
+#![tactic(auto)]
+
 mod payload;
 
 ghost use Rattle.std.specs.Prelude.{◌≡◌};

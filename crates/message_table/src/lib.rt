@@ -1,4 +1,6 @@
 // The constant table of messages: ids, full lengths, and where target system, component and kind stand; and a payload as it is read by it.
+#![tactic(auto)]
+
 ghost use Rattle.std.specs.Prelude.{◌≡◌, ◌<◌, min, length};
 ghost use Rattle.rules.specs.Layouts.{layout_of};
 ghost use Rattle.message_table.specs.Table.{row_of, fulls, row_at, Owned, ReadAs};

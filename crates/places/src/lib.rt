@@ -1,4 +1,6 @@
 // Items in the store, eight words each: where those of a kind stand, by the tables of document 01; storing one, reading two of its fields, and counting jumps.
+#![tactic(auto)]
+
 ghost use Rattle.std.specs.Prelude.{◌≡◌, ◌+◌, ◌≤◌, length, get_or};
 ghost use Rattle.rules.specs.Limits.{rally, size_of, first_place_of, item_words, store_words};
 ghost use Rattle.rules.specs.Words.{last_word, command_in};

@@ -1,4 +1,6 @@
 // Lines: of a letter and numbers, and of words, numbers and bytes.
+#![tactic(auto)]
+
 ghost use Rattle.adding.specs.Added.{Adds};
 ghost use Rattle.rows.specs.Rows.{begun, row, line};
 

@@ -1,5 +1,7 @@
 // Call scripts: the record that stands next, read from the bytes that are left. A record is a header of 24 bytes and a payload; its numbers
 // are little-endian.
+#![tactic(auto)]
+
 ghost use Rattle.std.specs.Prelude.{◌≡◌, ◌≤◌, length};
 ghost use Rattle.script.specs.Records.{header_bytes, record_in, poke_fits, words_fit, items_fit, bytes_fit, write_fits, fits as Records·fits, next_in};
 

@@ -1,5 +1,7 @@
 // Text in lent buffers: bytes, decimal and hexadecimal numbers put behind the text so far; and, from the crate below, parts of slices. Standard output
 // from a buffer and standard input into one are in `streams`.
+#![tactic(auto)]
+
 mod numerals;
 
 pub use adding::{first, part, part_words, put, put_byte, within, within_words};

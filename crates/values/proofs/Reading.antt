@@ -82,6 +82,8 @@ nothing a b = ap (λ (n : ℕ). n * b) (zero-mul a) ∙ zero-mul b
 -- a float that is q / 1 in size, and one of the same sign
 level_is : (y : Float) (s : Bool) (q m : ℕ) (e : ℤ) → HasValue y (sign s q) q 1 → eq y (fin s m e) ≡ eqb (q * down e) (m * up e)
 unfolding eq
+level_is nan s q m e v = elim v [ ]
+level_is (inf _) s q m e v = elim v [ ]
 level_is (fin t k d) s q m e v =
     let a = k * up d * down e in
     let scaled : a ≡ q * down e * down d =

@@ -1,5 +1,7 @@
 // The values of params and coordinates: what their bit patterns stand for, and floats as whole numbers. The tests that the item rules make of floats are the
 // crate float_tests'.
+#![tactic(auto)]
+
 ghost use Rattle.std.specs.Prelude.{◌≡◌};
 ghost use Rattle.rules.specs.Values.{signed, float, whole_of, whole_number};
 ghost use Rattle.values.specs.Wholes.{meant};

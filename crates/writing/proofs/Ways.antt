@@ -19,17 +19,8 @@ module _ (store : List ℕ) (at : ℕ) (more : List ℕ) where
   no_room h short = rw (lt-leb (at + length more) (length store) (omega arith))
 
   module _ (h : at ≤ length store) (fits : length more ≤ length store - at) where
-    rest : drop (length store - at) (drop at store) ≡ []
-    rest = let past : length (drop at store) ≤ length store - at = omega (arith, length-drop at store) in drop_of_length-le (drop at store) past
-
-    all : take (length store - at) (drop at store) ≡ drop at store
-    all = take_all (length store - at) (drop at store) (omega (arith, length-drop at store))
-
-    pub copied
-        : (part : List ℕ)
-        → part ≡ take (length more) more ++ drop (length more) (take (length store - at) (drop at store))
-        → put_mid at (length store - at) store part ≡ written store at more
+    pub copied : (part : List ℕ) → part ≡ more → put_mid at (at + length more - at) store part ≡ written store at more
     unfolding written
     copied part e =
-        rw (le-leb (at + length more) (length store) (omega arith), e, rest, all, take-length more, drop-drop (length more) at store)
-        (ap (λ (l : List ℕ). take at store ++ l) (append-nil (more ++ drop (at + length more) store)))
+        let n : at + length more - at ≡ length more = omega arith in
+        rw (le-leb (at + length more) (length store) (omega arith), e, n, drop-drop (length more) at store)

@@ -1,4 +1,6 @@
 // Bytes and words written over others, in a store that a host writes, and words compared.
+#![tactic(auto)]
+
 ghost use Rattle.std.specs.Prelude.{◌≡◌, true};
 ghost use Rattle.writing.specs.Written.{written, words_written};
 
@@ -14,7 +16,8 @@ pub fn write(store: &mut [u8], at: usize, payload: &[u8])
     if store.len() - at < payload.len() {
         return;
     }
-    bytes::copy(payload, &mut store[at..]);
+    let end = at + payload.len();
+    store[at..end].copy_from_slice(payload);
 }
 
 // The same of words, whose bytes stand in the payload, lowest first. Nothing is written where they are not whole words.

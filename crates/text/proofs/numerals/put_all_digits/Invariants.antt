@@ -1,0 +1,11 @@
+use Prim.Native.Nat.{◌+◌, ◌*◌, ◌-◌, ◌≤◌}
+use lib.ListN.{length, take}
+use Rattle.adding.specs.Added.{Adds}
+use Rattle.text.specs.Digits.{hex}
+use Rattle.text.proofs.numerals.put_all_digits.Given as goal
+
+abbrev pub invariant-loop-i : goal.invariant-loop-i
+invariant-loop-i l = (l.i ≤ length l.bytes) × (l.end + 2 * (length l.bytes - l.i) ≤ length l.out) × Adds (hex (take l.i l.bytes)) l.initial.out l.at l.out l.end
+
+abbrev pub decreases-loop-i : goal.decreases-loop-i
+decreases-loop-i l = length l.bytes - l.i
