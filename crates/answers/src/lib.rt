@@ -13,7 +13,7 @@ use upload::{Effect, Say, Turned};
 pub const REPLIED: u8 = 0;
 
 // The outcome of a call, and the id and the length of the reply that was written.
-#[derive(Drop)]
+#[derive(Clone, Copy)]
 pub struct Said {
     pub outcome: u8,
     pub id: u32,
@@ -21,7 +21,7 @@ pub struct Said {
 }
 
 // What was done and said.
-#[derive(Drop)]
+#[derive(Clone, Copy)]
 pub struct Handled {
     pub effect: Effect,
     pub said: Said,

@@ -1,7 +1,7 @@
 // What "command done" answers, with the item's number: its seconds, metres, degrees or speed, or a servo's channel and pulse.
 #![tactic(auto)]
 
-#[derive(Drop)]
+#[derive(Clone, Copy)]
 pub enum Command {
     Fly(u16),
     Wait(u16, f32),

@@ -33,7 +33,7 @@ fn words() -> [u8; LETTERS]
 }
 
 // What is told of a command: a part of the words, the first numbers of a list, and the first bytes of a value.
-#[derive(Drop)]
+#[derive(Clone, Copy)]
 struct Answer {
     from: usize,
     letters: usize,

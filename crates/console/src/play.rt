@@ -5,7 +5,7 @@ use script::{HEADER_BYTES, OLD_ARRAY, REPLY_ARRAY, Record, STORE_ARRAY};
 use streams::Unread;
 
 // The state after a record, and where the text of lines ends.
-#[derive(Drop)]
+#[derive(Clone, Copy)]
 pub struct Played {
     pub state: State,
     pub at: usize,

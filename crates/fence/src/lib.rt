@@ -1,4 +1,6 @@
 // The rule on a whole fence, read from the items in the store.
+#![tactic(auto)]
+
 ghost use Rattle.std.specs.Prelude.{◌≡◌, ◌≤◌, length};
 ghost use Rattle.rules.specs.Limits.{fence, size_of, store_words};
 ghost use Rattle.rules.specs.Fence.{fence_ok};
@@ -17,7 +19,7 @@ const EXCLUSION_VERTEX: u16 = 5002;
 
 // Where the reading stands: the rule is broken, or `left` vertices of the open run are still to come, each with the command
 // and the number of vertices of its first.
-#[derive(Drop)]
+#[derive(Clone, Copy)]
 struct Reading {
     broken: bool,
     left: u32,

@@ -45,10 +45,10 @@ pub fn word_at(p: &[u8], at: usize) -> u64
 }
 
 // A number's bytes, lowest first.
-#[derive(Drop)]
+#[derive(Clone, Copy)]
 pub struct Two(pub u8, pub u8);
 
-#[derive(Drop)]
+#[derive(Clone, Copy)]
 pub struct Four(pub u8, pub u8, pub u8, pub u8);
 
 pub fn bytes16(n: u16) -> Two

@@ -15,7 +15,7 @@ pub use payload::{item_at, item_bytes};
 use values::Whole;
 
 // Params, x, y and z as values, with their 32-bit patterns beside them: a NaN's bits do not survive an f32.
-#[derive(Drop)]
+#[derive(Clone, Copy)]
 pub struct Item {
     pub param1: f32,
     pub param2: f32,

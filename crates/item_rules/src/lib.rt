@@ -1,4 +1,6 @@
 // The verdict on an item by document 01's rules. The command table is in table, the rules' tests one by one are in checks.
+#![tactic(auto)]
+
 mod checks;
 mod table;
 

@@ -9,7 +9,7 @@ use limits::{
 };
 
 // What is asked of a param.
-#[derive(Drop)]
+#[derive(Clone, Copy)]
 pub enum ParamRule {
     Anything,
     Finite,
@@ -25,7 +25,7 @@ pub enum ParamRule {
 }
 
 // A row of the table, for the commands of one arm.
-#[derive(Drop)]
+#[derive(Clone, Copy)]
 pub struct Row {
     pub kind: u8,
     pub positional: bool,
@@ -34,7 +34,7 @@ pub struct Row {
 }
 
 // What the table has for a command.
-#[derive(Drop)]
+#[derive(Clone, Copy)]
 pub enum Listing {
     Listed(Row),
     NotListed,

@@ -10,7 +10,7 @@ pub const WHOLE: u8 = b'n';
 
 // A line's letter, and how many numbers it has; a message's id or a float's pattern; the payload as a part of the payloads, or the number meant; and how
 // many bytes are lent for writing.
-#[derive(Drop)]
+#[derive(Clone, Copy)]
 pub struct Case {
     pub letter: u8,
     pub numbers: usize,

@@ -56,7 +56,7 @@ const TARGETS: [u8; ROWS] = [4, 2, NONE, 0, 2, 0, 0, 2, 32, NONE, NONE];
 const KINDS: [u8; ROWS] = [6, NONE, NONE, 2, 4, 2, 3, 4, 37, NONE, NONE];
 
 // What the columns hold at a row, and whether it is that of an id in the table.
-#[derive(Drop)]
+#[derive(Clone, Copy)]
 struct Row {
     full: u8,
     target: u8,
@@ -124,7 +124,7 @@ pub fn full_of(id: u32) -> usize
 pub const OWN_BYTES: usize = ITEM_BYTES;
 
 // What a message is judged by before its own rule: target system, target component and kind.
-#[derive(Drop)]
+#[derive(Clone, Copy)]
 pub struct Head {
     pub system: u8,
     pub component: u8,
@@ -132,7 +132,7 @@ pub struct Head {
 }
 
 // A payload as it is read, once: whether messages of its id are read here, its head, and its own bytes, zero-filled.
-#[derive(Drop)]
+#[derive(Clone, Copy)]
 pub struct Received {
     pub read: bool,
     pub head: Head,

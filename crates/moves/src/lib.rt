@@ -17,7 +17,7 @@ use storage::keep;
 use upload::updates::ended;
 
 // What the move returns beside the stores: the state after it, and its outcome.
-#[derive(Drop)]
+#[derive(Clone, Copy)]
 pub struct Moved {
     pub state: State,
     pub outcome: u8,

@@ -10,7 +10,7 @@ use limits::{JUMP_COUNTS, MAX_FOLLOWED};
 use plan_search::{Met, meet};
 
 // What a search finds: the answer and, where it stands at an item, that item and the counts.
-#[derive(Drop)]
+#[derive(Clone, Copy)]
 pub struct Found {
     pub stands: bool,
     pub n: u16,

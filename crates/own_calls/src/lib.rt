@@ -13,7 +13,7 @@ use refusal::{done_refusal, timer_refusal};
 use upload::Effect;
 
 // What a message or a timer call returns beside the store and the reply buffer: the state after it, its outcome, and the reply's id and length.
-#[derive(Drop)]
+#[derive(Clone, Copy)]
 pub struct Served {
     pub state: State,
     pub outcome: u8,
@@ -22,7 +22,7 @@ pub struct Served {
 }
 
 // What a "command done" call returns: the state after it, its outcome, and the command.
-#[derive(Drop)]
+#[derive(Clone, Copy)]
 pub struct Advanced {
     pub state: State,
     pub outcome: u8,

@@ -15,7 +15,7 @@ use item::Item;
 use limits::{ACCEPTED, CHANGE_SPEED, DELAY, DISTANCE, FLIGHT, JUMP_COUNTS, SET_SERVO, YAW};
 
 // What a search meets first that is no jump to pass over.
-#[derive(Drop)]
+#[derive(Clone, Copy)]
 pub enum Met {
     // The end, or an item that breaks the rules.
     Ends(Command),
@@ -26,7 +26,7 @@ pub enum Met {
 }
 
 // What one item is to a search.
-#[derive(Drop)]
+#[derive(Clone, Copy)]
 enum Look {
     Meets(Met),
     PassedOver,

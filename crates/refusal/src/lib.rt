@@ -1,4 +1,6 @@
 // The refusals of each call, tested in their order: 14, 15, 10, 11, 12, 13. Outcome 0 here says that a call is not refused.
+#![tactic(auto)]
+
 ghost use Rattle.std.specs.Prelude.{◌≡◌, ℕ, length};
 ghost use Rattle.rules.specs.Payload.{Bytes};
 ghost use Rattle.rules.specs.Messages.{Station, station};

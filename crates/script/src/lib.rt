@@ -62,7 +62,7 @@ pub const REPLY_ARRAY: usize = 64;
 const STORED_BYTES: usize = ITEM_WORDS * WORD_BYTES;
 
 // A record's header; store and reply are the lengths lent to the call.
-#[derive(Drop)]
+#[derive(Clone, Copy)]
 pub struct Record {
     pub kind: u8,
     pub b0: u8,
@@ -79,7 +79,7 @@ pub struct Record {
 
 // What stands next in a script: a record whose payload follows its header, the end, a record that the end of input cuts, or one that cannot
 // be played, with its type.
-#[derive(Drop)]
+#[derive(Clone, Copy)]
 pub enum Next {
     Play(Record),
     End,

@@ -1,5 +1,7 @@
 // An item in the store: kept as its eight words at its place, fetched from there as a struct, and carried from one half to the other as it stands. Its number and its
 // kind are those of the place.
+#![tactic(auto)]
+
 ghost use Rattle.std.specs.Prelude.{◌≡◌, [], ◌∷◌, ◌+◌, ◌-◌, ◌≤◌, ◌<◌, length};
 ghost use Rattle.rules.specs.Limits.{rally, size_of, item_words, store_words};
 ghost use Rattle.rules.specs.Messages.{item_in};

@@ -5,7 +5,7 @@ ghost use Rattle.streams.specs.Unread.{Moved, ReadBehind, ReadOn};
 use adding::within;
 
 // The part of a buffer that is read and not yet used.
-#[derive(Drop)]
+#[derive(Clone, Copy)]
 pub struct Unread {
     pub at: usize,
     pub end: usize,

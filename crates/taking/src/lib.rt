@@ -24,7 +24,7 @@ use upload::{Say, Turned};
 
 // What an item is to its kind's upload: refused with a result, not the number expected, invalid with a result, or the valid
 // next item of a running upload.
-#[derive(Drop)]
+#[derive(Clone, Copy)]
 enum Judged {
     Refused(u8),
     OutOfTurn(u16),

@@ -1,4 +1,6 @@
 // Trimming: "Written payloads drop trailing zero bytes but keep at least one".
+#![tactic(auto)]
+
 ghost use Rattle.std.specs.Prelude.{◌≡◌, ◌+◌, ◌<◌, ◌≤◌, length, take, drop};
 ghost use Rattle.rules.specs.Payload.{significant, trim};
 ghost use Rattle.rules.specs.Layouts.{layout_of};

@@ -1,4 +1,6 @@
 // The steps of one kind's upload, what they do to the state, and what is said back. Everything here speaks of one plan at a time; its kind does not matter.
+#![tactic(auto)]
+
 use plan::Plan;
 
 mod counters;
@@ -7,7 +9,7 @@ pub mod updates;
 pub mod uploads;
 
 // What a handler says to a station about its kind: nothing, an ACK with result and plan number, or a request of an item.
-#[derive(Drop)]
+#[derive(Clone, Copy)]
 pub enum Say {
     Silent,
     Ack(u8, u32),
@@ -15,7 +17,7 @@ pub enum Say {
 }
 
 // What a message or a timer call does to the state, where it does anything.
-#[derive(Drop)]
+#[derive(Clone, Copy)]
 pub enum Effect {
     Nothing,
     // The plan of the kind keeps its items, and its upload is another.
@@ -31,7 +33,7 @@ pub enum Effect {
 }
 
 // What a handler of one plan does, and what it says.
-#[derive(Drop)]
+#[derive(Clone, Copy)]
 pub struct Turned {
     pub effect: Effect,
     pub say: Say,

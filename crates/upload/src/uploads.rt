@@ -6,7 +6,7 @@ ghost use Rattle.upload.specs.Turns.{others_upload, own_upload, station_of};
 
 use plan::{Run, Upload};
 
-#[derive(Drop)]
+#[derive(Clone, Copy)]
 pub struct Station {
     pub system: u8,
     pub component: u8,

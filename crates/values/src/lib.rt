@@ -29,7 +29,7 @@ pub fn signed_of(bits: u32) -> i32
 }
 
 // An exact reading: a whole number of 32 signed bits, no value (NaN), or neither.
-#[derive(Drop)]
+#[derive(Clone, Copy)]
 pub enum Whole {
     Integer(i32),
     NoValue,

@@ -1,5 +1,7 @@
 // MAVLink payloads: a struct for each message read or written here, and reading each from its own bytes, which the table of messages gives. Writing is left to the
 // crate reply, and what a message does to others.
+#![tactic(auto)]
+
 mod read;
 mod structs;
 

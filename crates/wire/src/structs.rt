@@ -2,7 +2,7 @@
 use item::Item;
 
 // MISSION_WRITE_PARTIAL_LIST; start and end as the patterns of signed numbers.
-#[derive(Drop)]
+#[derive(Clone, Copy)]
 pub struct PartialList {
     pub start: u16,
     pub end: u16,
@@ -11,14 +11,14 @@ pub struct PartialList {
     pub kind: u8,
 }
 
-#[derive(Drop)]
+#[derive(Clone, Copy)]
 pub struct SetCurrent {
     pub seq: u16,
     pub system: u8,
     pub component: u8,
 }
 
-#[derive(Drop)]
+#[derive(Clone, Copy)]
 pub struct Current {
     pub seq: u16,
     pub total: u16,
@@ -29,14 +29,14 @@ pub struct Current {
     pub rally: u32,
 }
 
-#[derive(Drop)]
+#[derive(Clone, Copy)]
 pub struct RequestList {
     pub system: u8,
     pub component: u8,
     pub kind: u8,
 }
 
-#[derive(Drop)]
+#[derive(Clone, Copy)]
 pub struct Count {
     pub count: u16,
     pub system: u8,
@@ -45,14 +45,14 @@ pub struct Count {
     pub number: u32,
 }
 
-#[derive(Drop)]
+#[derive(Clone, Copy)]
 pub struct ClearAll {
     pub system: u8,
     pub component: u8,
     pub kind: u8,
 }
 
-#[derive(Drop)]
+#[derive(Clone, Copy)]
 pub struct Ack {
     pub system: u8,
     pub component: u8,
@@ -61,7 +61,7 @@ pub struct Ack {
     pub number: u32,
 }
 
-#[derive(Drop)]
+#[derive(Clone, Copy)]
 pub struct RequestInt {
     pub seq: u16,
     pub system: u8,
@@ -69,7 +69,7 @@ pub struct RequestInt {
     pub kind: u8,
 }
 
-#[derive(Drop)]
+#[derive(Clone, Copy)]
 pub struct ItemInt {
     pub system: u8,
     pub component: u8,
@@ -77,7 +77,7 @@ pub struct ItemInt {
     pub item: Item,
 }
 
-#[derive(Drop)]
+#[derive(Clone, Copy)]
 pub struct Statustext {
     pub severity: u8,
     pub text: [u8; 50],
