@@ -1,4 +1,6 @@
 // What a host does between the calls: it sets a number of the state, and it writes items, for which it has to know where they stand.
+#![tactic(auto)]
+
 ghost use Rattle.std.specs.Prelude.{◌%◌, ◌≡◌, cond};
 ghost use Rattle.host.specs.Pokes.{poked_run, poked_upload, poked_plan, poked_plans, poked_counts, poked_state};
 ghost use Rattle.host.specs.Items.{item_word};

@@ -1,4 +1,6 @@
 // The lines that a call script's records print, each put behind the text so far.
+#![tactic(auto)]
+
 ghost use Rattle.std.specs.Prelude.{◌≡◌, drop};
 ghost use Rattle.adding.specs.Added.{Adds};
 ghost use Rattle.lines.specs.Lines.{untouched as Lines·untouched, served_line, done_line, moved_line, stop_text};

@@ -1,5 +1,7 @@
 // What a search meets: the items of the flight plan from a place on, each judged, and jumps that have run as often as they repeat
 // passed over.
+#![tactic(auto)]
+
 ghost use Rattle.std.specs.Prelude.{◌≡◌, ◌≤◌, ◌<◌, length, drop};
 ghost use Rattle.rules.specs.Limits.{flight, size_of, store_words};
 ghost use Rattle.rules.specs.Messages.{item_in};

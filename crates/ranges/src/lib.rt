@@ -1,4 +1,6 @@
 // The ranges of outcome 15, over the numbers of a state.
+#![tactic(auto)]
+
 ghost use Rattle.std.specs.Prelude.{◌≡◌};
 ghost use Rattle.rules.specs.Model.{task_in_range};
 ghost use Rattle.plan.specs.View.{task_in};

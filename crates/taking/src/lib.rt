@@ -1,4 +1,6 @@
 // ITEM_INT: an item is judged, station and number first; a valid one is put into the other half of the store and taken.
+#![tactic(auto)]
+
 ghost use Rattle.std.specs.Prelude.{◌≡◌, true, not, cond, ◌&&◌, ◌≤◌, length, drop, eqb, ltb};
 ghost use Rattle.rules.specs.Limits.{flight, fence, rally, size_of, max_jumps, store_words};
 ghost use Rattle.rules.specs.Messages.{station};

@@ -26,8 +26,7 @@ use Rattle.plan_search.specs.declared.Look.{Look}
 use Rattle.plan_search.specs.declared.Look.TheVariants.{Meets}
 use Rattle.plan_search.specs.Orders.{command_for}
 use Rattle.plan_search.specs.Meeting.{look_as, jump_as}
-use Rattle.plan_search.proofs.look_at.Statement.{statement}
-use Rattle.plan_search.proofs.look_at.Tie as tie
+use Rattle.plan_search.proofs.look_at.Goals as goal
 
 module _ (home : Bool) (size : ℕ) (counts : List ℕ) (n j : ℕ) (item : Item) (i : rules.Item) (is : item ≡ item_for i) (v : ℕ) (ev : v ≡ fault home flight size n j (patterns item)) where
   judged : v ≡ fault home flight size n j i
@@ -75,72 +74,31 @@ module _ (home : Bool) (size : ℕ) (counts : List ℕ) (n j : ℕ) (item : Item
               ∙ ap (λ (w : ℤ). jump_as w (target_of i) j (get_or counts j 0)) (back_is repeat f ∙ ew ∙ ap repeat_of (patterns_of is))
               ∙ rw (eq-eqb (fault home flight size n j i) accepted fine, ← jumps, jump)
 
-fetch-requires : tie.Need-fetch-requires
-fetch-requires c κs = search rules
+pub verdict-requires : goal.verdict-requires
+verdict-requires c = values_of c.fetch-item.ensures
 
-verdict-requires : tie.Need-verdict-requires
-verdict-requires c κs = values_of c.fetch.ensures
+pub bounds-counts-at : goal.bounds-counts-at
+bounds-counts-at c = room _ _ [] _ _ _ _ c.fetch-item.ensures _ c.verdict.ensures c.if-verdict-ne-ACCEPTED.false _ c.is_jump.ensures c.if-not-is_jump.false
 
-array-read-runs : tie.Need-array-read-runs
-array-read-runs c =
-    let judged = c.before.before in
-    let fetched = judged.before.before in
-    room _ _ [] _ _ _ _ fetched.fetch.ensures _ judged.before.verdict.ensures judged.if1.false _ c.before.is-jump.ensures c.if2.false
+pub returns-then-verdict-ne-ACCEPTED : goal.returns-then-verdict-ne-ACCEPTED
+returns-then-verdict-ne-ACCEPTED c = breaks _ _ _ _ _ _ _ c.fetch-item.ensures _ c.verdict.ensures c.if-verdict-ne-ACCEPTED.true
 
-returns : tie.Need-returns
-returns c = breaks _ _ _ _ _ _ _ c.before.before.fetch.ensures _ c.before.verdict.ensures c.if1.true
+pub command_of-requires : goal.command_of-requires
+command_of-requires c = (values_of c.fetch-item.ensures, search (servo_fits, rules))
 
-is-jump-requires : tie.Need-is-jump-requires
-is-jump-requires c κs = search rules
+pub returns-then-not-is_jump : goal.returns-then-not-is_jump
+returns-then-not-is_jump c = stands _ _ _ _ _ _ _ c.fetch-item.ensures _ c.verdict.ensures c.if-verdict-ne-ACCEPTED.false _ c.is_jump.ensures _
+    c.if-not-is_jump.true c.command_of.ensures
 
-command-of-requires : tie.Need-command-of-requires
-command-of-requires c κs = (values_of c.before.before.before.before.fetch.ensures, search (servo_fits, rules))
+pub repeat_of-requires : goal.repeat_of-requires
+repeat_of-requires c = values_of c.fetch-item.ensures
 
-returns-2 : tie.Need-returns-2
-returns-2 c =
-    let jumps = c.before.before in
-    let judged = jumps.before in
-    stands _ _ _ _ _ _ _ judged.before.before.fetch.ensures _ judged.before.verdict.ensures judged.if1.false _ jumps.is-jump.ensures _
-    c.before.if2.true c.command-of.ensures
+pub number1-requires : goal.number1-requires
+number1-requires c = values_of c.fetch-item.ensures
 
-mul-runs : tie.Need-overflow-mul-runs
-mul-runs c = search rules
+pub overflow_cast-number1 : goal.overflow_cast-number1
+overflow_cast-number1 c = record { fits = search (target_fits, rules) }
 
-repeat-of-requires : tie.Need-repeat-of-requires
-repeat-of-requires c κs = values_of c.before.before.before.before.fetch.ensures
-
-number1-requires : tie.Need-number1-requires
-number1-requires c κs = values_of c.before.before.before.before.before.fetch.ensures
-
-cast-jump-look : tie.Need-overflow-cast-jump-look
-cast-jump-look c = record { fits = search (target_fits, rules) }
-
-jump-look-requires : tie.Need-jump-look-requires
-jump-look-requires c κs = search rules
-
-returns-3 : tie.Need-returns-3
-returns-3 c =
-    let read = c.before in
-    let jumps = read.before.before.before in
-    let judged = jumps.before in
-    let fetched = judged.before.before in
-    follows _ _ _ _ _ _ _ fetched.fetch.ensures _ judged.before.verdict.ensures judged.if1.false _ jumps.is-jump.ensures
-    read.before.before.if2.false _ read.number1.ensures _ _ (search rules) read.before.repeat-of.ensures c.jump-look.ensures
-
-pub look-at-spec : {M : Type 1} → statement M
-look-at-spec =
-    tie.close
-    (tie.spec
-    fetch-requires
-    verdict-requires
-    returns
-    is-jump-requires
-    command-of-requires
-    returns-2
-    mul-runs
-    array-read-runs
-    repeat-of-requires
-    number1-requires
-    cast-jump-look
-    jump-look-requires
-    returns-3)
+pub returns : goal.returns
+returns c = follows _ _ _ _ _ _ _ c.fetch-item.ensures _ c.verdict.ensures c.if-verdict-ne-ACCEPTED.false _ c.is_jump.ensures
+    c.if-not-is_jump.false _ c.number1.ensures _ _ (search rules) c.repeat_of.ensures c.jump_look.ensures

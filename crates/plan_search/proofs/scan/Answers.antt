@@ -20,12 +20,8 @@ use Rattle.plan_search.specs.declared.Look.{Look}
 use Rattle.plan_search.specs.declared.Look.TheVariants.{Meets, PassedOver}
 use Rattle.plan_search.specs.PlanItems.{items_from}
 use Rattle.plan_search.specs.Meeting.{met_for, look_as, onwards, meets_one, over_room}
-use Rattle.plan_search.proofs.scan.Statement.{statement}
-use Rattle.plan_search.proofs.scan.Tie as tie
-
--- what is met from item n on
-abbrev met_from : Bool → Store → Bool → (len : ℕ) (counts : List ℕ) (n j : ℕ) → Met
-met_from home store half len counts n j = met_for (meets home len counts (drop n (items_in words store half flight len)) n j)
+use Rattle.plan_search.proofs.scan.Invariants.{met_from}
+use Rattle.plan_search.proofs.scan.Goals as goal
 
 module _ (home : Bool) (store : Store) (half : Bool) (len : ℕ) (counts : List ℕ) (n j : ℕ) (all : Met) (is : all ≡ met_from home store half len counts n j) where
   module _ (below : n < len) (look : Look) (looked : look ≡ look_as home len counts n j (item_in (item_at words store half flight n))) where
@@ -54,55 +50,20 @@ module _ (home : Bool) (store : Store) (half : Bool) (len : ℕ) (counts : List 
       let items = items_in words store half flight len in
       sym (is ∙ ap (λ (l : List Bytes). met_for (meets home len counts l n j)) (drop_of_length-le items {i = n} (omega (arith, length_items words store half flight len))))
 
-abbrev invariant-loop : tie.invariant-loop
-invariant-loop home store half len counts from before n₀ j₀ n j = met_from home store half len counts from before ≡ met_from home store half len counts n j
+pub loop-n-init : goal.loop-n-init
+loop-n-init c = refl
 
-abbrev decreases-loop : tie.decreases-loop
-decreases-loop home store half len counts from before n₀ j₀ n j = len - n
+pub returns-in-Meets : goal.returns-in-Meets
+returns-in-Meets c = search (met_here, rules)
 
-loop-holds : tie.Need-loop-init invariant-loop decreases-loop
-loop-holds c = refl
+pub overflow_add-j : goal.overflow_add-j
+overflow_add-j c = record { fits = search (count_fits, rules) }
 
-look-at-requires : tie.Need-look-at-requires invariant-loop decreases-loop
-look-at-requires c κs = search rules
+pub loop-n-smaller : goal.loop-n-smaller
+loop-n-smaller c = omega arith
 
-enum-known-met : tie.Need-enum-known-met invariant-loop decreases-loop
-enum-known-met c = search rules
+pub loop-n-preserved : goal.loop-n-preserved
+loop-n-preserved c = search (met_later, rules)
 
-returns : tie.Need-returns invariant-loop decreases-loop
-returns c = search (met_here, rules)
-
-enum_told : tie.Need-enum-told invariant-loop decreases-loop
-enum_told c = search rules
-
-add-n : tie.Need-overflow-add-n invariant-loop decreases-loop
-add-n c = search rules
-
-add-j : tie.Need-overflow-add-j invariant-loop decreases-loop
-add-j c = record { fits = search (count_fits, rules) }
-
-loop-less : tie.Need-loop-smaller invariant-loop decreases-loop
-loop-less c = omega arith
-
-loop-again : tie.Need-loop-preserved invariant-loop decreases-loop
-loop-again c = search (met_later, rules)
-
-returns-2 : tie.Need-returns-2 invariant-loop decreases-loop
-returns-2 c = search (at_end, rules)
-
-pub scan-spec : {M : Type 1} → statement M
-scan-spec =
-    tie.close
-    (tie.spec
-    invariant-loop
-    decreases-loop
-    loop-holds
-    look-at-requires
-    enum-known-met
-    returns
-    enum_told
-    add-n
-    add-j
-    loop-less
-    loop-again
-    returns-2)
+pub returns : goal.returns
+returns c = search (at_end, rules)

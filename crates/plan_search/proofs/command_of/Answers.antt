@@ -11,8 +11,7 @@ use Rattle.item.specs.declared.Item.{Item}
 use Rattle.item.specs.Patterns.{item_for, patterns}
 use Rattle.command.specs.declared.Command.TheVariants.{Fly, Wait, Near, Turn, Speed, Servo}
 use Rattle.plan_search.specs.Orders.{command_for}
-use Rattle.plan_search.proofs.command_of.Statement.{statement}
-use Rattle.plan_search.proofs.command_of.Tie as tie
+use Rattle.plan_search.proofs.command_of.Goals as goal
 
 module _ (n : ℕ) (item : Item) (is : item ≡ item_for (patterns item)) where
   one : item.param1 ≡ float item.bits1
@@ -47,47 +46,26 @@ module _ (n : ℕ) (item : Item) (is : item ≡ item_for (patterns item)) where
   unfolding command_of
   servos e a b ea eb = rw e (ap₂ (Servo n) ea eb)
 
-number1-requires : tie.Need-number1-requires
-number1-requires c κs = search rules
+pub overflow_cast-result : goal.overflow_cast-result
+overflow_cast-result c = omega (arith, c.number1.ensures, c.requires.1.channel c.in-183.is)
 
-cast-t6 : tie.Need-overflow-cast-t6
-cast-t6 c = omega (arith, c.number1.ensures, c.before.before.requires.1.channel c.before.match.keys5)
+pub overflow_cast-result-in-183 : goal.overflow_cast-result-in-183
+overflow_cast-result-in-183 c = omega (arith, c.number2.ensures, c.requires.1.pulse c.in-183.is)
 
-number2-requires : tie.Need-number2-requires
-number2-requires c κs = search rules
+pub returns-in-112 : goal.returns-in-112
+returns-in-112 c = waits _ c.args.item c.requires.0 c.in-112.is
 
-cast-t8 : tie.Need-overflow-cast-t8
-cast-t8 c = omega (arith, c.number2.ensures, c.before.before.before.requires.1.pulse c.before.before.match.keys5)
+pub returns-in-114 : goal.returns-in-114
+returns-in-114 c = nears _ c.args.item c.requires.0 c.in-114.is
 
-returns : tie.Need-returns
-returns c = waits _ c.before.args.item c.before.requires.0 c.match.keys1
+pub returns-in-115 : goal.returns-in-115
+returns-in-115 c = turns _ c.args.item c.requires.0 c.in-115.is
 
-returns-2 : tie.Need-returns-2
-returns-2 c = nears _ c.before.args.item c.before.requires.0 c.match.keys2
+pub returns-in-178 : goal.returns-in-178
+returns-in-178 c = speeds _ c.args.item c.requires.0 c.in-178.is
 
-returns-3 : tie.Need-returns-3
-returns-3 c = turns _ c.before.args.item c.before.requires.0 c.match.keys3
+pub returns-in-183 : goal.returns-in-183
+returns-in-183 c = search (servos, rules)
 
-returns-4 : tie.Need-returns-4
-returns-4 c = speeds _ c.before.args.item c.before.requires.0 c.match.keys4
-
-returns-5 : tie.Need-returns-5
-returns-5 c = search (servos, rules)
-
-returns-6 : tie.Need-returns-6
-returns-6 c = search (flies, rules)
-
-pub command-of-spec : {M : Type 1} → statement M
-command-of-spec =
-    tie.close
-    (tie.spec
-    number1-requires
-    cast-t6
-    number2-requires
-    cast-t8
-    returns
-    returns-2
-    returns-3
-    returns-4
-    returns-5
-    returns-6)
+pub returns-in_default : goal.returns-in_default
+returns-in_default c = search (flies, rules)

@@ -15,8 +15,7 @@ use Rattle.places.specs.Forms.{Store, words, items_in, length_items}
 use Rattle.plan_search.specs.declared.Met.{Met}
 use Rattle.plan_search.specs.PlanItems.{items_until}
 use Rattle.plan_search.specs.Meeting.{met_for}
-use Rattle.plan_search.proofs.meet.Statement.{statement}
-use Rattle.plan_search.proofs.meet.Tie as tie
+use Rattle.plan_search.proofs.meet.Goals as goal
 
 module _ (home : Bool) (store : Store) (half : Bool) (len : ℕ) (counts : List ℕ) (n before : ℕ) (eb : before ≡ jumps_among (items_in words store half flight n)) where
   abbrev items : List Bytes
@@ -35,14 +34,5 @@ module _ (home : Bool) (store : Store) (half : Bool) (len : ℕ) (counts : List 
   met_there : (met : Met) → met ≡ met_for (meets home len counts (drop n items) n before) → met ≡ met_for (search_from home items counts n)
   met_there met e = e ∙ ap met_for from_there
 
-jumps-requires : tie.Need-jumps-requires
-jumps-requires c κs = search rules
-
-scan-requires : tie.Need-scan-requires
-scan-requires c κs = search rules
-
-returns : tie.Need-returns
+pub returns : goal.returns
 returns c = search (met_there, rules)
-
-pub meet-spec : {M : Type 1} → statement M
-meet-spec = tie.close (tie.spec jumps-requires scan-requires returns)

@@ -8,8 +8,7 @@ use Rattle.rules.specs.Model.{task_in_range}
 use Rattle.plan.specs.declared.Run.{Run}
 use Rattle.plan.specs.View.{task_in}
 use borrow.Author.Rules.{rules}
-use Rattle.ranges.proofs.task_ranged.Statement.{statement}
-use Rattle.ranges.proofs.task_ranged.Tie as tie
+use Rattle.ranges.proofs.task_ranged.Goals as goal
 
 module _ (len : ℕ) (r : Run) where
   part : r.partial ≡ true → (eqb r.count len && leb r.first r.next && leb r.next r.last && ltb r.last r.count) ≡ task_in_range len (task_in r) r.next
@@ -24,17 +23,11 @@ module _ (len : ℕ) (r : Run) where
   unfolding task_in_range
   all e h = simp (e, lt-ltb r.next r.count h, and-true)
 
-returns : tie.Need-returns
-returns c = search (part, rules)
+pub returns-then-run : goal.returns-then-run
+returns-then-run c = search (part, rules)
 
-returns-2 : tie.Need-returns-2
-returns-2 c = search (past, rules)
+pub returns-then-run-2 : goal.returns-then-run-2
+returns-then-run-2 c = search (past, rules)
 
-sub-result : tie.Need-sub-result
-sub-result c = search rules
-
-returns-3 : tie.Need-returns-3
-returns-3 c = search (all, rules)
-
-pub task-ranged-spec : {M : Type 1} → statement M
-task-ranged-spec = tie.close (tie.spec returns returns-2 sub-result returns-3)
+pub returns : goal.returns
+returns c = search (all, rules)

@@ -9,15 +9,13 @@ use mir.Syntax.{w32}
 use mir.Val.{SFits, to_z}
 use mir.ValLaws.{to_z_pos}
 use borrow.Author.Tests.{le-ltb}
-use borrow.Author.Rules.{rules}
 use Rattle.rules.specs.NextCommand.{passed_over}
 use Rattle.values.specs.Integers.{back, back_is}
 use Rattle.plan_search.specs.declared.Met.TheVariants.{Follows}
 use Rattle.plan_search.specs.declared.Look.{Look}
 use Rattle.plan_search.specs.declared.Look.TheVariants.{Meets, PassedOver}
 use Rattle.plan_search.specs.Meeting.{is_counted, jump_as}
-use Rattle.plan_search.proofs.jump_look.Statement.{statement}
-use Rattle.plan_search.proofs.jump_look.Tie as tie
+use Rattle.plan_search.proofs.jump_look.Goals as goal
 
 module _ (repeat : ℤ) (f : SFits w32 repeat) (target j runs : ℕ) (small : runs < 65536) where
   abbrev chosen : Bool → Bool → Look
@@ -35,23 +33,11 @@ module _ (repeat : ℤ) (f : SFits w32 repeat) (target j runs : ℕ) (small : ru
       ∙ ap (chosen (lt_z repeat (pos 0))) (sym eo ∙ ap (λ (z : ℤ). le_z z (to_z w32 runs)) (back_is repeat f) ∙ ap (le_z repeat) (to_z_pos w32 runs (omega arith)))
       ∙ by_sign repeat
 
-returns : tie.Need-returns
-returns c =
-    let start = c.before in
-    chosen_is start.args.repeat start.ranges.repeat start.args.target start.args.j start.args.runs start.ranges.runs.fits true _ c.if1.true refl
+pub returns-then-repeat-lt0 : goal.returns-then-repeat-lt0
+returns-then-repeat-lt0 c = chosen_is c.args.repeat c.ranges.repeat c.args.target c.args.j c.args.runs c.ranges.runs.fits true _ c.if-repeat-lt0.true refl
 
-cast-if2 : tie.Need-overflow-cast-if2
-cast-if2 c = search rules
+pub returns-then-repeat-runs : goal.returns-then-repeat-runs
+returns-then-repeat-runs c = chosen_is c.args.repeat c.ranges.repeat c.args.target c.args.j c.args.runs c.ranges.runs.fits false true c.if-repeat-lt0.false c.if-repeat-runs.true
 
-returns-2 : tie.Need-returns-2
-returns-2 c =
-    let start = c.before.before in
-    chosen_is start.args.repeat start.ranges.repeat start.args.target start.args.j start.args.runs start.ranges.runs.fits false true c.before.if1.false c.if2.true
-
-returns-3 : tie.Need-returns-3
-returns-3 c =
-    let start = c.before.before in
-    chosen_is start.args.repeat start.ranges.repeat start.args.target start.args.j start.args.runs start.ranges.runs.fits false false c.before.if1.false c.if2.false
-
-pub jump-look-spec : {M : Type 1} → statement M
-jump-look-spec = tie.close (tie.spec returns cast-if2 returns-2 returns-3)
+pub returns : goal.returns
+returns c = chosen_is c.args.repeat c.ranges.repeat c.args.target c.args.j c.args.runs c.ranges.runs.fits false false c.if-repeat-lt0.false c.if-repeat-runs.false

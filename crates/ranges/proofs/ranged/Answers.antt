@@ -8,8 +8,7 @@ use Rattle.rules.specs.Limits.{flight, fence, rally, size_of}
 use Rattle.plan.specs.declared.Plan.{Plan}
 use Rattle.ranges.specs.Ranges.{plan_ranged, counts_ranged, all_ranged}
 use borrow.Author.Rules.{rules}
-use Rattle.ranges.proofs.ranged.Statement.{statement}
-use Rattle.ranges.proofs.ranged.Tie as tie
+use Rattle.ranges.proofs.ranged.Goals as goal
 
 -- the calls' answers as variables
 way : (p q r : Plan) (current : ℕ) (counts : List ℕ) (size0 size1 size2 : ℕ) (plan0 plan1 plan2 all : Bool)
@@ -20,39 +19,5 @@ way : (p q r : Plan) (current : ℕ) (counts : List ℕ) (size0 size1 size2 : �
     → (plan0 && plan1 && plan2 && (ltb current p.len || eqb current 0) && all) ≡ all_ranged p q r current counts
 way p q r current counts size0 size1 size2 plan0 plan1 plan2 all e0 p0 e1 p1 e2 p2 c = simp (p0, p1, p2, e0, e1, e2, c)
 
-size-of-requires : tie.Need-size-of-requires
-size-of-requires c κs = search rules
-
-plan-ranged-requires : tie.Need-plan-ranged-requires
-plan-ranged-requires c κs = search rules
-
-size-of-requires-2 : tie.Need-size-of-requires-2
-size-of-requires-2 c κs = search rules
-
-plan-ranged-requires-2 : tie.Need-plan-ranged-requires-2
-plan-ranged-requires-2 c κs = search rules
-
-size-of-requires-3 : tie.Need-size-of-requires-3
-size-of-requires-3 c κs = search rules
-
-plan-ranged-requires-3 : tie.Need-plan-ranged-requires-3
-plan-ranged-requires-3 c κs = search rules
-
-counts-ranged-requires : tie.Need-counts-ranged-requires
-counts-ranged-requires c κs = search rules
-
-returns : tie.Need-returns
+pub returns : goal.returns
 returns c = search (way, rules)
-
-pub ranged-spec : {M : Type 1} → statement M
-ranged-spec =
-    tie.close
-    (tie.spec
-    size-of-requires
-    plan-ranged-requires
-    size-of-requires-2
-    plan-ranged-requires-2
-    size-of-requires-3
-    plan-ranged-requires-3
-    counts-ranged-requires
-    returns)
