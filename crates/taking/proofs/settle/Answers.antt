@@ -8,7 +8,7 @@ use Rattle.rules.specs.Limits.{rally, size_of, store_words}
 use Rattle.plan.specs.declared.Plan.{Plan}
 use Rattle.plan.specs.declared.Run.{Run}
 use Rattle.places.specs.Forms.{Store, words}
-use Rattle.places.specs.Places.{words_lawful}
+use Rattle.places.proofs.Lawful.{words_lawful}
 use Rattle.places.specs.Carried.{carried, filled, carried_leaves}
 use Rattle.upload.specs.Turns.{settled}
 use Rattle.taking.specs.Judging.{InRange, first_within, past_last}

@@ -13,7 +13,7 @@ use Rattle.plan.specs.declared.Run.{Run}
 use Rattle.ranges.specs.Ranges.{upload_ranged}
 use Rattle.places.specs.Writes.{put_at, length_stays}
 use Rattle.rule_laws.specs.Words.{length_words_of}
-use Rattle.places.specs.Places.{words_lawful}
+use Rattle.places.proofs.Lawful.{words_lawful}
 use Rattle.upload.specs.declared.Say.TheVariants.{Ack, Ask}
 use Rattle.upload.specs.declared.Turned.{Turned}
 use Rattle.upload.specs.Turns.{ended, keeps, moves, TurnAndStore, turn_with, valid_item_turned, item_turned}
