@@ -13,7 +13,8 @@ use Rattle.rule_laws.specs.Fitted.{fresh_fits, step_fits}
 use Rattle.call_lists.specs.Laws.Ranged.{Formed, fresh_formed}
 use Rattle.call_lists.specs.Laws.Kept.{step_kept}
 use Rattle.places.specs.Forms.{Store, Form, words, least}
-use Rattle.places.specs.Places.{Lawful, words_lawful}
+use Rattle.places.specs.Places.{Lawful}
+use Rattle.places.proofs.Lawful.{words_lawful}
 use Rattle.plan.specs.declared.State.{State}
 use Rattle.plan.specs.View.{view_in, fresh_state, fresh_view}
 use Rattle.refine.specs.Promise.{Result, half_of, LentIn, spare}

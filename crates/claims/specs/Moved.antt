@@ -8,13 +8,13 @@ use Rattle.rules.specs.Model.{Model, idle, in_range}
 use Rattle.rules.specs.Calls.{Call, store_lent}
 use Rattle.rule_laws.specs.Fitting.{CallsFit}
 use Rattle.places.specs.Forms.{Store, words}
-use Rattle.places.specs.Places.{words_lawful}
+use Rattle.places.proofs.Lawful.{words_lawful}
 use Rattle.plan.specs.declared.State.{State}
 use Rattle.plan.specs.View.{view}
 use Rattle.refine.specs.Items.{len_ranged}
 use Rattle.moves.specs.Moves.{MovesToWords, moved}
 use Rattle.moves.specs.Outcome.{movable}
-use Rattle.moves.specs.Same.{moved_same}
+use Rattle.moves.proofs.Same.{moved_same}
 use Rattle.claims.specs.Demand3.{Got}
 use Rattle.claims.specs.Service.{World, shows}
 use Rattle.claims.specs.Existence.{AllLent, trace_exists}

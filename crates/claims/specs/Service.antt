@@ -6,7 +6,8 @@ use Rattle.rules.specs.Payload.{Bytes}
 use Rattle.rules.specs.Model.{Model}
 use Rattle.rules.specs.Calls.{Call, store_lent}
 use Rattle.places.specs.Forms.{Store, Form, words, least}
-use Rattle.places.specs.Places.{Lawful, words_lawful}
+use Rattle.places.specs.Places.{Lawful}
+use Rattle.places.proofs.Lawful.{words_lawful}
 use Rattle.plan.specs.declared.State.{State}
 use Rattle.plan.specs.View.{view_in, view, fresh_state, fresh_view}
 use Rattle.ranges.specs.Ranges.{ranged_view}

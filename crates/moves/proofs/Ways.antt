@@ -18,7 +18,8 @@ use Rattle.ranges.specs.Ranged.{PlanRanges, plans_ranged_lem, plan_ranges}
 use Rattle.upload.specs.Turns.{ended}
 use Rattle.moves.specs.Moves.{outcome_of, MovesToWords}
 use Rattle.moves.specs.Outcome.{Movable, movable}
-use Rattle.moves.specs.Moving.{movedPlans, endedState, plans-length, plans_moved, plans_beside}
+use Rattle.moves.specs.Moving.{movedPlans, endedState}
+use Rattle.moves.proofs.Moving.{plans-length, plans_moved, plans_beside}
 
 module _ (st : State) (old new : Store) (ranged : Bool) (outcome : ℕ)
     (test : ranged ≡ all_ranged (plan_of st flight) (plan_of st fence) (plan_of st rally) st.current st.counts)

@@ -2,5 +2,4 @@
 pub mod Moves
 pub mod Outcome
 pub mod Moving
-pub mod Same
 pub mod Cases

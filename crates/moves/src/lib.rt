@@ -1,4 +1,6 @@
 // The one-time move of M-106: the three plans from a store of bytes to the store of words.
+#![tactic(auto)]
+
 ghost use Rattle.std.specs.Prelude.{◌≡◌, true, ◌≤◌, ◌<◌, length};
 ghost use Rattle.rules.specs.Limits.{rally, size_of};
 ghost use Rattle.rules.specs.Messages.{item_in};

@@ -26,7 +26,7 @@ use Rattle.plan.specs.declared.Plan.{Plan}
 use Rattle.plan.specs.declared.Upload.{Upload}
 use Rattle.plan.specs.declared.Upload.TheVariants.{Idle, Running}
 use Rattle.places.specs.Forms.{Store, words, items_in}
-use Rattle.places.specs.Places.{words_lawful}
+use Rattle.places.proofs.Lawful.{words_lawful}
 use Rattle.plan.specs.View.{plan_of, view_in, view}
 use Rattle.ranges.specs.Ranges.{all_ranged, in_range_lem}
 use Rattle.ranges.specs.Ranged.{flight_length, current_below}

@@ -7,7 +7,7 @@ use Rattle.rules.specs.NextCommand as rules
 use Rattle.rules.specs.Calls.{Call, refuses, heard}
 use Rattle.rules.specs.Step.{refused}
 use Rattle.places.specs.Forms.{Store, words}
-use Rattle.places.specs.Places.{words_lawful}
+use Rattle.places.proofs.Lawful.{words_lawful}
 use Rattle.plan.specs.declared.State.{State}
 use Rattle.plan.specs.View.{view}
 use Rattle.refusal.specs.Refusals.{refusal_of, refused_with}

@@ -1,4 +1,4 @@
--- What is asked of a form of store, shown of both, and the laws of places that follow, for every such form: a place is in the store, and is the place of no
+-- What is asked of a form of store, shown of bytes here and of words in proofs/Lawful.antt, and the laws of places that follow, for every such form: a place is in the store, and is the place of no
 -- other item.
 use Rattle.std.specs.Prelude.{◌≡◌, refl, Bool, ℕ, zero, suc, ◌+◌, ◌*◌, ◌^◌, ◌≤◌, ◌<◌, length}
 use Rattle.std.proofs.Common.{ap, arith}
@@ -8,8 +8,7 @@ use Rattle.std.proofs.Math.Nat.{mul-le-mul_right}
 use Rattle.rules.specs.Limits.{rally, size_of, first_place_of, half_places, byte_values}
 use Rattle.rules.specs.Messages.{Item, item_of}
 use Rattle.rule_laws.specs.Layout.{length_item_of}
-use Rattle.rule_laws.specs.Words.{length_words_of, words_kept}
-use Rattle.places.specs.Forms.{Form, words, bytes, least, place_of, offset_of}
+use Rattle.places.specs.Forms.{Form, bytes, least, place_of, offset_of}
 
 pub record Lawful (F : Form) : Type 0 where
   -- an item takes as many numbers as the form says, and at its own place they are the stored item
@@ -21,13 +20,13 @@ pub record Lawful (F : Form) : Type 0 where
 
 -- ---- the tables of places and sizes
 
-first_within : (kind : ℕ) → kind ≤ rally → first_place_of kind + size_of kind ≤ half_places
+pub first_within : (kind : ℕ) → kind ≤ rally → first_place_of kind + size_of kind ≤ half_places
 first_within zero known = omega arith
 first_within (suc zero) known = omega arith
 first_within (suc (suc zero)) known = omega arith
 first_within (suc (suc (suc kind))) known = absurd (omega arith)
 
-first_before_lem : (kind later : ℕ) → kind < later → later ≤ rally → first_place_of kind + size_of kind ≤ first_place_of later
+pub first_before_lem : (kind later : ℕ) → kind < later → later ≤ rally → first_place_of kind + size_of kind ≤ first_place_of later
 first_before_lem zero zero less known = absurd (omega arith)
 first_before_lem zero (suc zero) less known = omega arith
 first_before_lem zero (suc (suc zero)) less known = omega arith
@@ -44,9 +43,6 @@ sizes_short zero = omega arith
 sizes_short (suc zero) = omega arith
 sizes_short (suc (suc zero)) = omega arith
 sizes_short (suc (suc (suc kind))) = omega arith
-
-pub words_lawful : Lawful words
-words_lawful = record { wide = length_words_of; kept = words_kept; within = first_within; ordered = first_before_lem }
 
 pub bytes_lawful : Lawful bytes
 bytes_lawful = record { wide = length_item_of; kept = λ item. refl; within = first_within; ordered = first_before_lem }

@@ -21,7 +21,7 @@ use Rattle.plan.specs.declared.State.{State}
 use Rattle.plan.specs.declared.Plan.{Plan}
 use Rattle.rule_laws.specs.Brought.{request_kind}
 use Rattle.places.specs.Forms.{Store, words}
-use Rattle.places.specs.Places.{words_lawful}
+use Rattle.places.proofs.Lawful.{words_lawful}
 use Rattle.plan.specs.View.{empty_plan, plan_of, view, fresh_state}
 use Rattle.ranges.specs.Ranges.{plans_ranged, all_ranged, in_range_lem}
 use Rattle.ranges.specs.Ranged.{plans_ranged_lem}

@@ -10,7 +10,7 @@ use Rattle.rules.specs.Words.{command_in, frame_in, autocontinue_in, last_word_o
 use Rattle.rule_laws.specs.Fitting.{Fits}
 use Rattle.rule_laws.specs.Words.{length_words_of, command_kept, frame_kept, autocontinue_kept, words_read}
 use Rattle.places.specs.Forms.{Store, words, item_at}
-use Rattle.places.specs.Places.{words_lawful}
+use Rattle.places.proofs.Lawful.{words_lawful}
 use Rattle.places.specs.Writes.{put_at, item_fetched}
 
 -- an item as number n of a kind: "Seq and kind follow from the place"

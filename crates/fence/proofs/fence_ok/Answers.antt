@@ -17,7 +17,8 @@ use Rattle.rules.specs.Fence.{between, run_with, read_items, fence_ok}
 use Rattle.fence.specs.declared.Reading.{Reading}
 use Rattle.places.specs.Part.{part, get_d_part}
 use Rattle.places.specs.Forms.{Store, words, item_at, items_in, offset_of}
-use Rattle.places.specs.Places.{words_lawful, offset_within}
+use Rattle.places.specs.Places.{offset_within}
+use Rattle.places.proofs.Lawful.{words_lawful}
 use Rattle.places.specs.Stored.{with_command, command_is, param1_is, points_are}
 use Rattle.fence.specs.FenceReading.{reading_of, read_as, reads_more, between_is}
 use Rattle.fence.proofs.fence_ok.Goals as goal

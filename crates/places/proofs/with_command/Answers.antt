@@ -12,7 +12,8 @@ use Rattle.rules.specs.Limits.{item_words}
 use Rattle.rules.specs.Words.{last_word, command_in}
 use Rattle.places.specs.Part.{part, get_d_part}
 use Rattle.places.specs.Forms.{Store, words, item_at, items_in, offset_of}
-use Rattle.places.specs.Places.{words_lawful, offset_next, offset_within}
+use Rattle.places.specs.Places.{offset_next, offset_within}
+use Rattle.places.proofs.Lawful.{words_lawful}
 use Rattle.places.specs.Stored.{with_command, command_is, with_more}
 use Rattle.places.proofs.with_command.Goals as goal
 use Rattle.places.proofs.with_command.Goals.{then-command_at-command, else-command_at-command}

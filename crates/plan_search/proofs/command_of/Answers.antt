@@ -47,22 +47,22 @@ module _ (n : ℕ) (item : Item) (is : item ≡ item_for (patterns item)) where
   servos e a b ea eb = rw e (ap₂ (Servo n) ea eb)
 
 pub overflow_cast-result : goal.overflow_cast-result
-overflow_cast-result c = omega (arith, c.number1.ensures, c.requires.1.channel c.in-183.is)
+overflow_cast-result c = omega (arith, c.number1.ensures, c.requires.servo_fits.channel c.in-183.is)
 
 pub overflow_cast-result-in-183 : goal.overflow_cast-result-in-183
-overflow_cast-result-in-183 c = omega (arith, c.number2.ensures, c.requires.1.pulse c.in-183.is)
+overflow_cast-result-in-183 c = omega (arith, c.number2.ensures, c.requires.servo_fits.pulse c.in-183.is)
 
 pub returns-in-112 : goal.returns-in-112
-returns-in-112 c = waits _ c.args.item c.requires.0 c.in-112.is
+returns-in-112 c = waits _ c.args.item c.requires.item_value c.in-112.is
 
 pub returns-in-114 : goal.returns-in-114
-returns-in-114 c = nears _ c.args.item c.requires.0 c.in-114.is
+returns-in-114 c = nears _ c.args.item c.requires.item_value c.in-114.is
 
 pub returns-in-115 : goal.returns-in-115
-returns-in-115 c = turns _ c.args.item c.requires.0 c.in-115.is
+returns-in-115 c = turns _ c.args.item c.requires.item_value c.in-115.is
 
 pub returns-in-178 : goal.returns-in-178
-returns-in-178 c = speeds _ c.args.item c.requires.0 c.in-178.is
+returns-in-178 c = speeds _ c.args.item c.requires.item_value c.in-178.is
 
 pub returns-in-183 : goal.returns-in-183
 returns-in-183 c = search (servos, rules)

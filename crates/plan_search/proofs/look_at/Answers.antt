@@ -78,17 +78,17 @@ pub verdict-requires : goal.verdict-requires
 verdict-requires c = values_of c.fetch-item.ensures
 
 pub bounds-counts-at : goal.bounds-counts-at
-bounds-counts-at c = room _ _ [] _ _ _ _ c.fetch-item.ensures _ c.verdict.ensures c.if-verdict-ne-ACCEPTED.false _ c.is_jump.ensures c.if-not-is_jump.false
+bounds-counts-at c = room _ _ [] _ _ _ _ c.fetch-item.ensures _ c.verdict.ensures c.if-verdict-ne-ACCEPTED.false _ c.is_jump.ensures (ap not c.if-not-is_jump.false)
 
 pub returns-then-verdict-ne-ACCEPTED : goal.returns-then-verdict-ne-ACCEPTED
 returns-then-verdict-ne-ACCEPTED c = breaks _ _ _ _ _ _ _ c.fetch-item.ensures _ c.verdict.ensures c.if-verdict-ne-ACCEPTED.true
 
 pub command_of-requires : goal.command_of-requires
-command_of-requires c = (values_of c.fetch-item.ensures, search (servo_fits, rules))
+command_of-requires c = record { item_value = values_of c.fetch-item.ensures; servo_fits = search (servo_fits, rules) }
 
 pub returns-then-not-is_jump : goal.returns-then-not-is_jump
 returns-then-not-is_jump c = stands _ _ _ _ _ _ _ c.fetch-item.ensures _ c.verdict.ensures c.if-verdict-ne-ACCEPTED.false _ c.is_jump.ensures _
-    c.if-not-is_jump.true c.command_of.ensures
+    (ap not c.if-not-is_jump.true) c.command_of.ensures
 
 pub repeat_of-requires : goal.repeat_of-requires
 repeat_of-requires c = values_of c.fetch-item.ensures
@@ -101,4 +101,4 @@ overflow_cast-number1 c = record { fits = search (target_fits, rules) }
 
 pub returns : goal.returns
 returns c = follows _ _ _ _ _ _ _ c.fetch-item.ensures _ c.verdict.ensures c.if-verdict-ne-ACCEPTED.false _ c.is_jump.ensures
-    c.if-not-is_jump.false _ c.number1.ensures _ _ (search rules) c.repeat_of.ensures c.jump_look.ensures
+    (ap not c.if-not-is_jump.false) _ c.number1.ensures _ _ (search rules) c.repeat_of.ensures c.jump_look.ensures

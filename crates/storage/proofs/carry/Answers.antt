@@ -8,7 +8,8 @@ use borrow.Author.Rules.{rules}
 use Rattle.rules.specs.Limits.{item_words}
 use Rattle.places.specs.Part.{part, put}
 use Rattle.places.specs.Forms.{Store, words, offset_of}
-use Rattle.places.specs.Places.{words_lawful, offset_within}
+use Rattle.places.specs.Places.{offset_within}
+use Rattle.places.proofs.Lawful.{words_lawful}
 use Rattle.places.specs.Carried.{carried_at}
 use Rattle.storage.proofs.carry.Goals as goal
 

@@ -7,7 +7,7 @@ use borrow.Author.Rules.{rules}
 use lib.ListN.{length}
 use Rattle.rules.specs.Limits.{rally, size_of, store_words}
 use Rattle.places.specs.Forms.{Store, words}
-use Rattle.places.specs.Places.{words_lawful}
+use Rattle.places.proofs.Lawful.{words_lawful}
 use Rattle.places.specs.Carried.{carried_at, carried, carried_leaves}
 use Rattle.storage.proofs.carry_items.Goals as goal
 

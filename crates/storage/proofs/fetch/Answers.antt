@@ -12,7 +12,8 @@ use Rattle.item.specs.declared.Item.{Item}
 use Rattle.item.specs.Patterns.{item_for}
 use Rattle.places.specs.Part.{part, part_below}
 use Rattle.places.specs.Forms.{Store, words, offset_of, item_at}
-use Rattle.places.specs.Places.{words_lawful, offset_within, sizes_short}
+use Rattle.places.specs.Places.{offset_within, sizes_short}
+use Rattle.places.proofs.Lawful.{words_lawful}
 use borrow.Author.Rules.{rules}
 use Rattle.storage.proofs.fetch.Goals as goal
 

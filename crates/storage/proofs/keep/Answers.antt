@@ -13,7 +13,8 @@ use Rattle.rule_laws.specs.Fitting.{Fits}
 use Rattle.item.specs.Patterns.{patterns}
 use Rattle.places.specs.Part.{put}
 use Rattle.places.specs.Forms.{Store, words, item_at, offset_of}
-use Rattle.places.specs.Places.{words_lawful, offset_within, sizes_short}
+use Rattle.places.specs.Places.{offset_within, sizes_short}
+use Rattle.places.proofs.Lawful.{words_lawful}
 use Rattle.places.specs.Writes.{put_at}
 use Rattle.storage.specs.Kept.{at_place, kept_fetched}
 use borrow.Author.Rules.{rules}

@@ -8,8 +8,7 @@ use Rattle.rules.specs.Limits.{fence, size_of}
 use Rattle.rules.specs.Fence.{fence_ok}
 use Rattle.places.specs.Forms.{Store, words, items_in}
 use borrow.Author.Rules.{rules}
-use Rattle.taking.proofs.breaks_fence.Statement.{statement}
-use Rattle.taking.proofs.breaks_fence.Tie as tie
+use Rattle.taking.proofs.breaks_fence.Goals as goal
 
 of_fence : (kind n : ℕ) → kind ≡ fence → n ≤ size_of kind → n ≤ size_of fence
 of_fence kind n e within = rw e at within
@@ -21,14 +20,11 @@ judged store half kind n b e eb = rw (e, eb)
 no_fence : (store : Store) (half : Bool) (kind n : ℕ) → (kind ≡ fence → ⊥) → false ≡ (eqb kind fence && not (fence_ok (items_in words store half kind n)))
 no_fence store half kind n other = rw (ne_eqb kind fence other)
 
-fence-ok-requires : tie.Need-fence-ok-requires
-fence-ok-requires c κs = search (of_fence, rules)
+pub fence_ok-requires : goal.fence_ok-requires
+fence_ok-requires c = search (of_fence, rules)
 
-returns : tie.Need-returns
-returns c = search (judged, rules)
+pub returns-then-kind-eq-FENCE : goal.returns-then-kind-eq-FENCE
+returns-then-kind-eq-FENCE c = search (judged, rules)
 
-returns-2 : tie.Need-returns-2
-returns-2 c = search (no_fence, rules)
-
-pub breaks-fence-spec : {M : Type 1} → statement M
-breaks-fence-spec = tie.close (tie.spec fence-ok-requires returns returns-2)
+pub returns : goal.returns
+returns c = search (no_fence, rules)

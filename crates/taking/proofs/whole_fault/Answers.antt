@@ -10,8 +10,7 @@ use Rattle.rules.specs.Items.{jumps_among}
 use Rattle.rules.specs.Fence.{fence_ok}
 use Rattle.rules.specs.Model.{Task, whole_fault}
 use borrow.Author.Rules.{rules}
-use Rattle.taking.proofs.whole_fault.Statement.{statement}
-use Rattle.taking.proofs.whole_fault.Tie as tie
+use Rattle.taking.proofs.whole_fault.Goals as goal
 
 module _ (kind : ℕ) (t : Task) (items : List Bytes) (jumps : Bool) (many : jumps ≡ (t.partial && eqb kind flight && ltb max_jumps (jumps_among items))) where
   no_room : jumps ≡ true → no_space ≡ whole_fault kind t items
@@ -27,20 +26,11 @@ module _ (kind : ℕ) (t : Task) (items : List Bytes) (jumps : Bool) (many : jum
     unfolding whole_fault
     passes e f = simp (← many, e, ← broken, f)
 
-too-many-jumps-requires : tie.Need-too-many-jumps-requires
-too-many-jumps-requires c κs = search rules
+pub returns-then-too_many_jumps : goal.returns-then-too_many_jumps
+returns-then-too_many_jumps c = search (no_room, rules)
 
-returns : tie.Need-returns
-returns c = search (no_room, rules)
+pub returns-then-breaks_fence : goal.returns-then-breaks_fence
+returns-then-breaks_fence c = search (breaks, rules)
 
-breaks-fence-requires : tie.Need-breaks-fence-requires
-breaks-fence-requires c κs = search rules
-
-returns-2 : tie.Need-returns-2
-returns-2 c = search (breaks, rules)
-
-returns-3 : tie.Need-returns-3
-returns-3 c = search (passes, rules)
-
-pub whole-fault-spec : {M : Type 1} → statement M
-whole-fault-spec = tie.close (tie.spec too-many-jumps-requires returns breaks-fence-requires returns-2 returns-3)
+pub returns : goal.returns
+returns c = search (passes, rules)

@@ -13,8 +13,7 @@ use Rattle.upload.specs.declared.Say.TheVariants.{Ack}
 use Rattle.upload.specs.declared.Turned.{Turned}
 use Rattle.upload.specs.Turns.{ended, replaced, moves, puts_in, turn_with, settled, last_turned}
 use borrow.Author.Rules.{rules}
-use Rattle.taking.proofs.last_turn.Statement.{statement}
-use Rattle.taking.proofs.last_turn.Tie as tie
+use Rattle.taking.proofs.last_turn.Goals as goal
 
 module _ (s s' : Store) (kind : ℕ) (p : Plan) (r : Run) (t : Turned) (result : ℕ) (is : s' ≡ settled words s kind p r)
     (judged : result ≡ whole_fault kind (task_in r) (items_in words s' (not p.half) kind r.count)) where
@@ -31,47 +30,8 @@ module _ (s s' : Store) (kind : ℕ) (p : Plan) (r : Run) (t : Turned) (result :
   unfolding last_turned
   passes q good eq et = turns (simp (← judged, eq-eqb result accepted good, et, eq))
 
-settle-requires : tie.Need-settle-requires
-settle-requires c κs = search rules
+pub returns-then-fault-ne-ACCEPTED : goal.returns-then-fault-ne-ACCEPTED
+returns-then-fault-ne-ACCEPTED c = search (fails, rules)
 
-whole-fault-requires : tie.Need-whole-fault-requires
-whole-fault-requires c κs = search rules
-
-ended-requires : tie.Need-ended-requires
-ended-requires c κs = search rules
-
-moves-requires : tie.Need-moves-requires
-moves-requires c κs = search rules
-
-same_length : tie.Need-same-length
-same_length c = search rules
-
-returns : tie.Need-returns
-returns c = search (fails, rules)
-
-replaced-requires : tie.Need-replaced-requires
-replaced-requires c κs = search rules
-
-puts-in-requires : tie.Need-puts-in-requires
-puts-in-requires c κs = search rules
-
-same-length-2 : tie.Need-same-length-2
-same-length-2 c = search rules
-
-returns-2 : tie.Need-returns-2
-returns-2 c = search (passes, rules)
-
-pub last-turn-spec : {M : Type 1} → statement M
-last-turn-spec =
-    tie.close
-    (tie.spec
-    settle-requires
-    whole-fault-requires
-    ended-requires
-    moves-requires
-    same_length
-    returns
-    replaced-requires
-    puts-in-requires
-    same-length-2
-    returns-2)
+pub returns : goal.returns
+returns c = search (passes, rules)

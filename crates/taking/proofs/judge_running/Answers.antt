@@ -14,8 +14,7 @@ use Rattle.upload.specs.Turns.{item_verdict}
 use Rattle.taking.specs.declared.Judged.TheVariants.{Refused, OutOfTurn, Invalid, Valid}
 use Rattle.taking.specs.Judging.{judged_as}
 use borrow.Author.Rules.{rules}
-use Rattle.taking.proofs.judge_running.Statement.{statement}
-use Rattle.taking.proofs.judge_running.Tie as tie
+use Rattle.taking.proofs.judge_running.Goals as goal
 
 module _ (home : Bool) (s : Store) (kind : ℕ) (p : Plan) (r : Run) (from : Station) (item : Item) (b : Bool) (is : b ≡ same_station from (station_in r)) where
   denies : not b ≡ true → Refused denied ≡ judged_as home s kind (Running r) p from item
@@ -36,24 +35,14 @@ module _ (home : Bool) (s : Store) (kind : ℕ) (p : Plan) (r : Run) (from : Sta
   unfolding judged_as
   passes result e own er good = simp (← is, e, eq-eqb item.seq r.next own, ← er, eq-eqb result accepted good)
 
-is-from-requires : tie.Need-is-from-requires
-is-from-requires c κs = search rules
+pub returns-then-not-is_from : goal.returns-then-not-is_from
+returns-then-not-is_from c = search (denies, rules)
 
-returns : tie.Need-returns
-returns c = search (denies, rules)
+pub returns-then-item-run : goal.returns-then-item-run
+returns-then-item-run c = search (out_of_turn, rules)
 
-returns-2 : tie.Need-returns-2
-returns-2 c = search (out_of_turn, rules)
+pub returns-then-result-ne-ACCEPTED : goal.returns-then-result-ne-ACCEPTED
+returns-then-result-ne-ACCEPTED c = search (fails, rules)
 
-result-of-requires : tie.Need-result-of-requires
-result-of-requires c κs = search rules
-
-returns-3 : tie.Need-returns-3
-returns-3 c = search (fails, rules)
-
-returns-4 : tie.Need-returns-4
-returns-4 c = search (passes, rules)
-
-pub judge-running-spec : {M : Type 1} → statement M
-judge-running-spec =
-    tie.close (tie.spec is-from-requires returns returns-2 result-of-requires returns-3 returns-4)
+pub returns : goal.returns
+returns c = search (passes, rules)

@@ -13,8 +13,7 @@ use Rattle.plan.specs.View.{task_in}
 use Rattle.taking.specs.Judging.{InRange, next_upto}
 use Rattle.taking.proofs.Room.{fault_room}
 use borrow.Author.Rules.{rules}
-use Rattle.taking.proofs.result_of.Statement.{statement}
-use Rattle.taking.proofs.result_of.Tie as tie
+use Rattle.taking.proofs.result_of.Goals as goal
 
 module _ (home : Bool) (kind : ℕ) (t : Task) (next : ℕ) (items : List Bytes) (i : Item) (start : t.partial ≡ false → t.first ≡ 0) where
   same_fault : fault home kind t.count next (cond (is_jump i && not t.partial) (jumps_among items) 0) i ≡ verdict_on home kind t next (drop t.first items) i
@@ -38,14 +37,8 @@ in_range_lem : (home : Bool) (size len kind : ℕ) (r : Run) (items : List Bytes
     → result ≡ verdict_on home kind (task_in r) r.next (drop r.first items) i
 in_range_lem home size len kind r items i before result h eb er = verdict_is home kind (task_in r) r.next items i h.task.from_start before result eb er
 
-jumps-before-requires : tie.Need-jumps-before-requires
-jumps-before-requires c κs = search (next_upto, rules)
+pub jumps_before-before-requires : goal.jumps_before-before-requires
+jumps_before-before-requires c = search (next_upto, rules)
 
-verdict-requires : tie.Need-verdict-requires
-verdict-requires c κs = search rules
-
-returns : tie.Need-returns
+pub returns : goal.returns
 returns c = search (in_range_lem, rules)
-
-pub result-of-spec : {M : Type 1} → statement M
-result-of-spec = tie.close (tie.spec jumps-before-requires verdict-requires returns)

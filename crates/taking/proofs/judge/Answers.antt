@@ -13,8 +13,7 @@ use Rattle.taking.specs.declared.Judged.{Judged}
 use Rattle.taking.specs.declared.Judged.TheVariants.{Refused}
 use Rattle.taking.specs.Judging.{judged_as, running_in_range}
 use borrow.Author.Rules.{rules}
-use Rattle.taking.proofs.judge.Statement.{statement}
-use Rattle.taking.proofs.judge.Tie as tie
+use Rattle.taking.proofs.judge.Goals as goal
 
 module _ (home : Bool) (s : Store) (kind : ℕ) (u : Upload) (p : Plan) (from : Station) (item : Item) where
   idle : u ≡ Idle → Refused invalid_sequence ≡ judged_as home s kind u p from item
@@ -24,21 +23,11 @@ module _ (home : Bool) (s : Store) (kind : ℕ) (u : Upload) (p : Plan) (from : 
   running : (r : Run) (j : Judged) → u ≡ Running r → j ≡ judged_as home s kind (Running r) p from item → j ≡ judged_as home s kind u p from item
   running r j e ej = rw (e, ej)
 
-enum_told : tie.Need-enum-told
-enum_told c = search rules
+pub judge_running-requires : goal.judge_running-requires
+judge_running-requires c = search (running_in_range, rules)
 
-enum-known-upload : tie.Need-enum-known-upload
-enum-known-upload c = search rules
+pub returns-in-Idle : goal.returns-in-Idle
+returns-in-Idle c = search (idle, rules)
 
-judge-running-requires : tie.Need-judge-running-requires
-judge-running-requires c κs = search (running_in_range, rules)
-
-returns : tie.Need-returns
-returns c = search (idle, rules)
-
-returns-2 : tie.Need-returns-2
-returns-2 c = search (running, rules)
-
-pub judge-spec : {M : Type 1} → statement M
-judge-spec =
-    tie.close (tie.spec enum_told enum-known-upload judge-running-requires returns returns-2)
+pub returns-in-Running : goal.returns-in-Running
+returns-in-Running c = search (running, rules)

@@ -8,8 +8,7 @@ use Rattle.places.specs.Forms.{words, bytes, least}
 use Rattle.moves.specs.Moves.{outcome_of}
 use borrow.Author.Rules.{rules}
 use borrow.Author.Tests.{not-true, not-false}
-use Rattle.moves.proofs.outcome_of.Statement.{statement}
-use Rattle.moves.proofs.outcome_of.Tie as tie
+use Rattle.moves.proofs.outcome_of.Goals as goal
 
 module _ (ranged : Bool) (old new : ℕ) (long : (ltb old (least bytes) || ltb new (least words)) ≡ false) where
   out_of_range : not ranged ≡ true → out_of_range ≡ outcome_of ranged old new
@@ -18,14 +17,11 @@ module _ (ranged : Bool) (old new : ℕ) (long : (ltb old (least bytes) || ltb n
   moves_on : not ranged ≡ false → no_reply ≡ outcome_of ranged old new
   moves_on fine = simp (long, not-false ranged fine)
 
-returns : tie.Need-returns
-returns c = rw c.if1.true refl
+pub returns-then-old_len-len : goal.returns-then-old_len-len
+returns-then-old_len-len c = rw c.if-old_len-len.true refl
 
-returns-2 : tie.Need-returns-2
-returns-2 c = search (out_of_range, rules)
+pub returns-then-not-ranged : goal.returns-then-not-ranged
+returns-then-not-ranged c = search (out_of_range, rules)
 
-returns-3 : tie.Need-returns-3
-returns-3 c = search (moves_on, rules)
-
-pub outcome-of-spec : {M : Type 1} → statement M
-outcome-of-spec = tie.close (tie.spec returns returns-2 returns-3)
+pub returns : goal.returns
+returns c = search (moves_on, rules)

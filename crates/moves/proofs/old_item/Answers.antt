@@ -12,8 +12,7 @@ use Rattle.places.specs.Part.{part}
 use Rattle.places.specs.Forms.{Store, bytes, offset_of, item_at}
 use Rattle.places.specs.Places.{bytes_lawful, offset_within}
 use borrow.Author.Rules.{rules}
-use Rattle.moves.proofs.old_item.Statement.{statement}
-use Rattle.moves.proofs.old_item.Tie as tie
+use Rattle.moves.proofs.old_item.Goals as goal
 
 read_there : (store : Store) (half : Bool) (kind n at : ℕ) (i : Item) → at ≡ offset_of bytes half kind n
     → i ≡ item_for (item_in (take (at + item_bytes - at) (drop at store))) → i ≡ item_for (item_in (item_at bytes store half kind n))
@@ -24,39 +23,13 @@ read_there store half kind n at i place read =
     ∙ ap (λ (k : ℕ). item_for (item_in (take k (drop at store)))) size
     ∙ ap (λ (k : ℕ). item_for (item_in (take item_bytes (drop k store)))) place
 
-byte-at-requires : tie.Need-byte-at-requires
-byte-at-requires c κs = search rules
-
-add-end : tie.Need-overflow-add-end
-add-end c =
-    let a = c.before.before.args in
+pub overflow_add-end : goal.overflow_add-end
+overflow_add-end c = let a = c.args in
     omega (arith, offset_within bytes bytes_lawful a.half a.kind a.n (search rules) (search rules))
 
-sub-item-at : tie.Need-overflow-sub-item-at
-sub-item-at c = search rules
-
-part-item-at-start : tie.Need-slice-bounds-item-at-start
-part-item-at-start c = search rules
-
-part-item-at-end : tie.Need-slice-bounds-item-at-end
-part-item-at-end c =
-    let a = c.before.before.args in
+pub slice_bounds-item_at-end : goal.slice_bounds-item_at-end
+slice_bounds-item_at-end c = let a = c.args in
     omega (arith, offset_within bytes bytes_lawful a.half a.kind a.n (search rules) (search rules))
 
-item-at-requires : tie.Need-item-at-requires
-item-at-requires c κs = search rules
-
-returns : tie.Need-returns
+pub returns : goal.returns
 returns c = search (read_there, rules)
-
-pub old-item-spec : {M : Type 1} → statement M
-old-item-spec =
-    tie.close
-    (tie.spec
-    byte-at-requires
-    add-end
-    sub-item-at
-    part-item-at-start
-    part-item-at-end
-    item-at-requires
-    returns)

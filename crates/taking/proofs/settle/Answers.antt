@@ -8,13 +8,12 @@ use Rattle.rules.specs.Limits.{rally, size_of, store_words}
 use Rattle.plan.specs.declared.Plan.{Plan}
 use Rattle.plan.specs.declared.Run.{Run}
 use Rattle.places.specs.Forms.{Store, words}
-use Rattle.places.specs.Places.{words_lawful}
+use Rattle.places.proofs.Lawful.{words_lawful}
 use Rattle.places.specs.Carried.{carried, filled, carried_leaves}
 use Rattle.upload.specs.Turns.{settled}
 use Rattle.taking.specs.Judging.{InRange, first_within, past_last}
 use borrow.Author.Rules.{rules}
-use Rattle.taking.proofs.settle.Statement.{statement}
-use Rattle.taking.proofs.settle.Tie as tie
+use Rattle.taking.proofs.settle.Goals as goal
 
 module _ (s : Store) (kind : ℕ) (p : Plan) (r : Run) where
   part : (s' s'' : Store) → r.partial ≡ true → s' ≡ carried words s p.half kind 0 (r.first - 0) → s'' ≡ carried words s' p.half kind (r.last + 1) (r.count - (r.last + 1))
@@ -35,23 +34,17 @@ module _ (s : Store) (kind : ℕ) (p : Plan) (r : Run) where
   long s' size len is h enough known e =
       omega (arith, ap length e, (carried_leaves words words_lawful p.half kind known s enough 0 (r.first - 0) (let upto = first_within size len r h in omega arith)).long)
 
-carry-items-requires : tie.Need-carry-items-requires
-carry-items-requires c κs = search (first_within, rules)
+pub carry_items-requires : goal.carry_items-requires
+carry_items-requires c = search (first_within, rules)
 
-add-carry-items : tie.Need-overflow-add-carry-items
-add-carry-items c = search (past_last, rules)
+pub overflow_add-run : goal.overflow_add-run
+overflow_add-run c = search (past_last, rules)
 
-carry-items-requires-2 : tie.Need-carry-items-requires-2
-carry-items-requires-2 c κs = (search (long, rules), search rules, search (past_last, rules), search rules)
+pub carry_items-requires-then-run : goal.carry_items-requires-then-run
+carry_items-requires-then-run c = (search (long, rules), search rules, search (past_last, rules), search rules)
 
-same_length : tie.Need-same-length
-same_length c = search rules
+pub returns-then-run : goal.returns-then-run
+returns-then-run c = search (part, rules)
 
-returns : tie.Need-returns
-returns c = search (part, rules)
-
-returns-2 : tie.Need-returns-2
-returns-2 c = search (all, rules)
-
-pub settle-spec : {M : Type 1} → statement M
-settle-spec = tie.close (tie.spec carry-items-requires add-carry-items carry-items-requires-2 same_length returns returns-2)
+pub returns-else-run : goal.returns-else-run
+returns-else-run c = search (all, rules)

@@ -12,8 +12,7 @@ use Rattle.upload.specs.declared.Turned.{Turned}
 use Rattle.upload.specs.Turns.{with_upload, one_more, moves, turn_with, settled, last_turned, valid_item_turned}
 use Rattle.taking.specs.Judging.{InRange}
 use borrow.Author.Rules.{rules}
-use Rattle.taking.proofs.valid_turn.Statement.{statement}
-use Rattle.taking.proofs.valid_turn.Tie as tie
+use Rattle.taking.proofs.valid_turn.Goals as goal
 
 module _ (s : Store) (kind : ℕ) (p : Plan) (r : Run) (now : ℕ) (t : Turned) where
   completes : (s' : Store) → r.next ≡ r.last → turn_with t s' ≡ turn_with (last_turned words (settled words s kind p r) kind p r) (settled words s kind p r)
@@ -33,26 +32,11 @@ next_room size len r h =
     let b = h.task.inside in
     omega arith
 
-last-turn-requires : tie.Need-last-turn-requires
-last-turn-requires c κs = search rules
+pub returns-then-run : goal.returns-then-run
+returns-then-run c = search (completes, rules)
 
-same_length : tie.Need-same-length
-same_length c = search rules
+pub overflow_add-next : goal.overflow_add-next
+overflow_add-next c = search (next_room, rules)
 
-returns : tie.Need-returns
-returns c = search (completes, rules)
-
-add-next : tie.Need-overflow-add-next
-add-next c = search (next_room, rules)
-
-with-upload-requires : tie.Need-with-upload-requires
-with-upload-requires c κs = search rules
-
-moves-requires : tie.Need-moves-requires
-moves-requires c κs = search rules
-
-returns-2 : tie.Need-returns-2
-returns-2 c = search (asks, rules)
-
-pub valid-turn-spec : {M : Type 1} → statement M
-valid-turn-spec = tie.close (tie.spec last-turn-requires same_length returns add-next with-upload-requires moves-requires returns-2)
+pub returns : goal.returns
+returns c = search (asks, rules)

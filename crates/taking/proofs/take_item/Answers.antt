@@ -13,7 +13,7 @@ use Rattle.plan.specs.declared.Run.{Run}
 use Rattle.ranges.specs.Ranges.{upload_ranged}
 use Rattle.places.specs.Writes.{put_at, length_stays}
 use Rattle.rule_laws.specs.Words.{length_words_of}
-use Rattle.places.specs.Places.{words_lawful}
+use Rattle.places.proofs.Lawful.{words_lawful}
 use Rattle.upload.specs.declared.Say.TheVariants.{Ack, Ask}
 use Rattle.upload.specs.declared.Turned.{Turned}
 use Rattle.upload.specs.Turns.{ended, keeps, moves, TurnAndStore, turn_with, valid_item_turned, item_turned}
@@ -21,8 +21,7 @@ use Rattle.taking.specs.declared.Judged.{Judged}
 use Rattle.taking.specs.declared.Judged.TheVariants.{Refused, OutOfTurn, Invalid, Valid}
 use Rattle.taking.specs.Judging.{InRange, judged_as, turned_as, turned_judged, valid_running, running_in_range, next_within}
 use borrow.Author.Rules.{rules}
-use Rattle.taking.proofs.take_item.Statement.{statement}
-use Rattle.taking.proofs.take_item.Tie as tie
+use Rattle.taking.proofs.take_item.Goals as goal
 
 module _ (home : Bool) (s : Store) (kind : ℕ) (p : Plan) (from : Station) (now : ℕ) (item : Item) (j : Judged) (is : j ≡ judged_as home s kind p.upload p from item) where
   abbrev step : TurnAndStore
@@ -62,83 +61,20 @@ module _ (home : Bool) (s : Store) (kind : ℕ) (p : Plan) (from : Station) (now
         omega
         (arith, ap length es, length_stays words words_lawful s enough (words_of item) (length_words_of item) (not p.half) kind k known fits)
 
-judge-requires : tie.Need-judge-requires
-judge-requires c κs = search rules
+pub keep-requires : goal.keep-requires
+keep-requires c = search (place, rules)
 
-enum-known-judged : tie.Need-enum-known-judged
-enum-known-judged c = search rules
+pub valid_turn-requires : goal.valid_turn-requires
+valid_turn-requires c = (search (long, place, rules), search rules, search (in_range_lem, rules))
 
-keeps-requires : tie.Need-keeps-requires
-keeps-requires c κs = search rules
+pub returns-in-Refused : goal.returns-in-Refused
+returns-in-Refused c = search (refused, rules)
 
-enum-known-judged-2 : tie.Need-enum-known-judged-2
-enum-known-judged-2 c = search rules
+pub returns-in-OutOfTurn : goal.returns-in-OutOfTurn
+returns-in-OutOfTurn c = search (out_of_turn, rules)
 
-keeps-requires-2 : tie.Need-keeps-requires-2
-keeps-requires-2 c κs = search rules
+pub returns-in-Invalid : goal.returns-in-Invalid
+returns-in-Invalid c = search (fails, rules)
 
-enum-known-judged-3 : tie.Need-enum-known-judged-3
-enum-known-judged-3 c = search rules
-
-ended-requires : tie.Need-ended-requires
-ended-requires c κs = search rules
-
-moves-requires : tie.Need-moves-requires
-moves-requires c κs = search rules
-
-enum-known-judged-4 : tie.Need-enum-known-judged-4
-enum-known-judged-4 c = search rules
-
-keep-requires : tie.Need-keep-requires
-keep-requires c κs = search (place, rules)
-
-valid-turn-requires : tie.Need-valid-turn-requires
-valid-turn-requires c κs = (search (long, place, rules), search rules, search (in_range_lem, rules))
-
-same_length : tie.Need-same-length
-same_length c = search rules
-
-returns : tie.Need-returns
-returns c = search (refused, rules)
-
-same-length-2 : tie.Need-same-length-2
-same-length-2 c = search rules
-
-returns-2 : tie.Need-returns-2
-returns-2 c = search (out_of_turn, rules)
-
-same-length-3 : tie.Need-same-length-3
-same-length-3 c = search rules
-
-returns-3 : tie.Need-returns-3
-returns-3 c = search (fails, rules)
-
-same-length-4 : tie.Need-same-length-4
-same-length-4 c = search rules
-
-returns-4 : tie.Need-returns-4
-returns-4 c = search (passes, rules)
-
-pub take-item-spec : {M : Type 1} → statement M
-take-item-spec =
-    tie.close
-    (tie.spec
-    judge-requires
-    enum-known-judged
-    keeps-requires
-    enum-known-judged-2
-    keeps-requires-2
-    enum-known-judged-3
-    ended-requires
-    moves-requires
-    enum-known-judged-4
-    keep-requires
-    valid-turn-requires
-    same_length
-    returns
-    same-length-2
-    returns-2
-    same-length-3
-    returns-3
-    same-length-4
-    returns-4)
+pub returns-in-Valid : goal.returns-in-Valid
+returns-in-Valid c = search (passes, rules)

@@ -1,0 +1,2 @@
+-- What is proved of the form of words.
+pub mod Lawful

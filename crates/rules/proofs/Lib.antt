@@ -1,0 +1,2 @@
+-- What is proved of the rules: every case of the tables holds.
+pub mod Cases
