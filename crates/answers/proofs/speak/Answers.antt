@@ -14,8 +14,7 @@ use Rattle.upload.specs.declared.Say.TheVariants.{Silent, Ack, Ask}
 use Rattle.answers.specs.declared.Said.{Said}
 use Rattle.record_steps.specs.Answers.{answer_of}
 use Rattle.answers.specs.Answered.{Spoken, said, spoken_silent, written_spoken}
-use Rattle.answers.proofs.speak.Statement.{statement}
-use Rattle.answers.proofs.speak.Tie as tie
+use Rattle.answers.proofs.speak.Goals as goal
 
 module _ (say : Say) (system component kind : ℕ) (b b' : Bytes) where
   acked : (result number : ℕ) (r : Said) → say ≡ Ack result number
@@ -29,54 +28,11 @@ module _ (say : Say) (system component kind : ℕ) (b b' : Bytes) where
 quiet : (say : Say) (system component kind : ℕ) (b : Bytes) (r : Said) → say ≡ Silent → r ≡ said no_reply 0 0 → Spoken (answer_of say (station system component) kind) b b r
 quiet say system component kind b r e er = rw (e, er) (spoken_silent b)
 
-enum_told : tie.Need-enum-told
-enum_told c = search rules
+pub returns-in-Silent : goal.returns-in-Silent
+returns-in-Silent c = search (quiet, rules)
 
-silent-requires : tie.Need-silent-requires
-silent-requires c κs = search rules
+pub returns-in-Ack : goal.returns-in-Ack
+returns-in-Ack c = search (acked, rules)
 
-enum-known-say : tie.Need-enum-known-say
-enum-known-say c = search rules
-
-ack-requires : tie.Need-ack-requires
-ack-requires c κs = search rules
-
-enum-known-say-2 : tie.Need-enum-known-say-2
-enum-known-say-2 c = search rules
-
-write-request-int-requires : tie.Need-write-request-int-requires
-write-request-int-requires c κs = search rules
-
-returns : tie.Need-returns
-returns c = search (quiet, rules)
-
-same_length : tie.Need-same-length
-same_length c = search rules
-
-returns-2 : tie.Need-returns-2
-returns-2 c = search (acked, rules)
-
-same-length-2 : tie.Need-same-length-2
-same-length-2 c = search rules
-
-returns-3 : tie.Need-returns-3
-returns-3 c =
-    let w = c.before.before in
-    let ask = w.before.before.before in
-    asked _ _ _ _ _ _ _ _ ask.before.before.before.requires ask.say2.given.1 w.write-request-int.ensures
-
-pub speak-spec : {M : Type 1} → statement M
-speak-spec =
-    tie.close
-    (tie.spec
-    enum_told
-    silent-requires
-    enum-known-say
-    ack-requires
-    enum-known-say-2
-    write-request-int-requires
-    returns
-    same_length
-    returns-2
-    same-length-2
-    returns-3)
+pub returns-in-Ask : goal.returns-in-Ask
+returns-in-Ask c = asked _ _ _ _ _ _ _ _ c.requires c.in-Ask.is c.write_request_int-len.ensures

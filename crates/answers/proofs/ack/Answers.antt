@@ -9,21 +9,11 @@ use Rattle.rules.specs.Layouts.{ack_id}
 use Rattle.rules.specs.Step.{says}
 use Rattle.reply.specs.Written.{Wrote}
 use Rattle.answers.specs.Answered.{Spoken, said, written_spoken}
-use Rattle.answers.proofs.ack.Statement.{statement}
-use Rattle.answers.proofs.ack.Tie as tie
+use Rattle.answers.proofs.ack.Goals as goal
 
 acked : (to : Station) (result kind number : ℕ) (b b' : Bytes) (n : ℕ) → reply_bytes_min ≤ length b → Wrote (ack to result kind number) b b' n
     → Spoken (says (ack to result kind number)) b b' (said replied ack_id n)
 acked to result kind number b b' n enough w = written_spoken (ack to result kind number) b b' n enough w
 
-write-ack-requires : tie.Need-write-ack-requires
-write-ack-requires c κs = search rules
-
-same_length : tie.Need-same-length
-same_length c = search rules
-
-returns : tie.Need-returns
+pub returns : goal.returns
 returns c = search (acked, rules)
-
-pub ack-spec : {M : Type 1} → statement M
-ack-spec = tie.close (tie.spec write-ack-requires same_length returns)
