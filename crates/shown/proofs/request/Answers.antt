@@ -17,8 +17,7 @@ use Rattle.answers.specs.declared.Said.{Said}
 use Rattle.answers.specs.Answered.{Spoken, said, written_spoken}
 use Rattle.record_steps.specs.Shown.{request_answer}
 use borrow.Author.Rules.{rules}
-use Rattle.shown.proofs.request.Statement.{statement}
-use Rattle.shown.proofs.request.Tie as tie
+use Rattle.shown.proofs.request.Goals as goal
 
 module _ (p : Plan) (current : ℕ) (store : Store) (system component kind seq : ℕ) (b b' : Bytes) where
   shown : (field : ℕ) (item : Item) (n : ℕ) → reply_bytes_min ≤ length b → seq < p.len
@@ -35,39 +34,8 @@ module _ (p : Plan) (current : ℕ) (store : Store) (system component kind seq :
   unfolding request_answer
   past s above spoken = rw (le-ltb _ _ above) spoken
 
-fetch-requires : tie.Need-fetch-requires
-fetch-requires c κs = search rules
+pub returns-then-seq-plan : goal.returns-then-seq-plan
+returns-then-seq-plan c = search (shown, rules)
 
-current-field-requires : tie.Need-current-field-requires
-current-field-requires c κs = search rules
-
-write-item-int-requires : tie.Need-write-item-int-requires
-write-item-int-requires c κs = search rules
-
-same_length : tie.Need-same-length
-same_length c = search rules
-
-returns : tie.Need-returns
-returns c = search (shown, rules)
-
-ack-requires : tie.Need-ack-requires
-ack-requires c κs = search rules
-
-same-length-2 : tie.Need-same-length-2
-same-length-2 c = search rules
-
-returns-2 : tie.Need-returns-2
-returns-2 c = search (past, rules)
-
-pub request-spec : {M : Type 1} → statement M
-request-spec =
-    tie.close
-    (tie.spec
-    fetch-requires
-    current-field-requires
-    write-item-int-requires
-    same_length
-    returns
-    ack-requires
-    same-length-2
-    returns-2)
+pub returns : goal.returns
+returns c = search (past, rules)

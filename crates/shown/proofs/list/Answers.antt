@@ -11,8 +11,7 @@ use Rattle.reply.specs.Written.{Wrote}
 use Rattle.answers.specs.Answered.{Spoken, said, written_spoken}
 use Rattle.record_steps.specs.Shown.{number_of, list_answer}
 use borrow.Author.Rules.{rules}
-use Rattle.shown.proofs.list.Statement.{statement}
-use Rattle.shown.proofs.list.Tie as tie
+use Rattle.shown.proofs.list.Goals as goal
 
 listed : (p : Plan) (system component kind number : ℕ) (b b' : Bytes) (n : ℕ) → reply_bytes_min ≤ length b → number ≡ number_of p
     → Wrote (count (station system component) p.len kind number) b b' n
@@ -21,17 +20,5 @@ unfolding list_answer
 listed p system component kind number b b' n enough e w =
     rw (sym e) (written_spoken (count (station system component) p.len kind number) b b' n enough w)
 
-number-shown-requires : tie.Need-number-shown-requires
-number-shown-requires c κs = search rules
-
-write-count-requires : tie.Need-write-count-requires
-write-count-requires c κs = search rules
-
-same_length : tie.Need-same-length
-same_length c = search rules
-
-returns : tie.Need-returns
+pub returns : goal.returns
 returns c = search (listed, rules)
-
-pub list-spec : {M : Type 1} → statement M
-list-spec = tie.close (tie.spec number-shown-requires write-count-requires same_length returns)

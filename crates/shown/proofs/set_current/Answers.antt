@@ -17,8 +17,7 @@ use Rattle.answers.specs.declared.Handled.{Handled}
 use Rattle.answers.specs.Answered.{Handles, said, written_spoken}
 use Rattle.record_steps.specs.Shown.{number_of, choose_effect, choose_answer}
 use borrow.Author.Rules.{rules}
-use Rattle.shown.proofs.set_current.Statement.{statement}
-use Rattle.shown.proofs.set_current.Tie as tie
+use Rattle.shown.proofs.set_current.Goals as goal
 
 module _ (p q r : Plan) (seq : ℕ) (b b' : Bytes) (n : ℕ) (enough : reply_bytes_min ≤ length b) where
   chosen_now : (mission fences rallies : ℕ) → seq < p.len → mission ≡ number_of p → fences ≡ number_of q → rallies ≡ number_of r
@@ -36,51 +35,8 @@ module _ (p q r : Plan) (seq : ℕ) (b b' : Bytes) (n : ℕ) (enough : reply_byt
   not_there text h above says w is =
       rw (is, le-ltb _ _ above, sym says) (record { effect = refl; spoken = written_spoken (statustext_message text) b b' n enough w })
 
-number-shown-requires : tie.Need-number-shown-requires
-number-shown-requires c κs = search rules
+pub returns-then-seq-flight : goal.returns-then-seq-flight
+returns-then-seq-flight c = search (chosen_now, rules)
 
-number-shown-requires-2 : tie.Need-number-shown-requires-2
-number-shown-requires-2 c κs = search rules
-
-number-shown-requires-3 : tie.Need-number-shown-requires-3
-number-shown-requires-3 c κs = search rules
-
-write-current-requires : tie.Need-write-current-requires
-write-current-requires c κs = search rules
-
-same_length : tie.Need-same-length
-same_length c = search rules
-
-returns : tie.Need-returns
-returns c = search (chosen_now, rules)
-
-no-such-item-requires : tie.Need-no-such-item-requires
-no-such-item-requires c κs = search rules
-
-write-statustext-requires : tie.Need-write-statustext-requires
-write-statustext-requires c κs = search rules
-
-only-requires : tie.Need-only-requires
-only-requires c κs = search rules
-
-same-length-2 : tie.Need-same-length-2
-same-length-2 c = search rules
-
-returns-2 : tie.Need-returns-2
-returns-2 c = search (not_there, rules)
-
-pub set-current-spec : {M : Type 1} → statement M
-set-current-spec =
-    tie.close
-    (tie.spec
-    number-shown-requires
-    number-shown-requires-2
-    number-shown-requires-3
-    write-current-requires
-    same_length
-    returns
-    no-such-item-requires
-    write-statustext-requires
-    only-requires
-    same-length-2
-    returns-2)
+pub returns : goal.returns
+returns c = search (not_there, rules)
