@@ -11,8 +11,7 @@ use Rattle.rules.specs.Model.{flown}
 use Rattle.rules.specs.NextCommand as rules
 use Rattle.rule_laws.specs.Tests.{either}
 use borrow.Author.Rules.{rules}
-use Rattle.next_command.proofs.next.Statement.{statement}
-use Rattle.next_command.proofs.next.Tie as tie
+use Rattle.next_command.proofs.next.Goals as goal
 
 module _ (home : Bool) (items : List Bytes) (counts : List ℕ) (f : rules.Found) (would from first : ℕ) where
   begins : f ≡ rules.search home max_followed items counts from → from ≡ flown home would → would ≡ first → f ≡ rules.search home max_followed items counts (flown home first)
@@ -23,17 +22,8 @@ within : (home : Bool) (would from : ℕ) → from ≡ flown home would → woul
 unfolding flown
 within home would from e most = rw e (either (λ (n : ℕ). n ≤ size_of flight) (home && eqb would 0) (λ t. omega arith) (λ t. most))
 
-start-requires : tie.Need-start-requires
-start-requires c κs = search rules
+pub find-requires : goal.find-requires
+find-requires c = search (within, rules)
 
-flown-requires : tie.Need-flown-requires
-flown-requires c κs = search rules
-
-find-requires : tie.Need-find-requires
-find-requires c κs = search (within, rules)
-
-returns : tie.Need-returns
+pub returns : goal.returns
 returns c = search (begins, rules)
-
-pub next-spec : {M : Type 1} → statement M
-next-spec = tie.close (tie.spec start-requires flown-requires find-requires returns)

@@ -10,7 +10,7 @@ use lib.ListN.{length, take, drop}
 use types.Run.{OneOf}
 use denote.Enum.Declared.{tag_of}
 use borrow.Author.Rules.{rules}
-use Rattle.rules.specs.Limits.{flight, size_of, max_followed}
+use Rattle.rules.specs.Limits.{flight, max_followed}
 use Rattle.rules.specs.Payload.{Bytes}
 use Rattle.rules.specs.Items.{jumps_among}
 use Rattle.rules.specs.NextCommand.{search_from}
@@ -22,8 +22,7 @@ use Rattle.next_command.specs.declared.find.Found.{Found}
 use Rattle.plan_search.specs.Meeting.{met_for, Followed, follows_known}
 use Rattle.next_command.specs.Finding.{found_of, settled_as, counted_as, settles_last, settles_sooner, follows_on}
 use Rattle.plan_search.specs.contracts.Met.{the_type}
-use Rattle.next_command.proofs.find.find.Statement.{statement}
-use Rattle.next_command.proofs.find.find.Tie as tie
+use Rattle.next_command.proofs.find.find.Goals as goal
 
 -- the variants before the last are no jump
 no_jump : (met : Met) → OneOf (0 ∷ 1 ∷ []) (tag_of the_type met) → (j target : ℕ) (up : Bool) → met ≡ Follows j target up → ⊥
@@ -66,83 +65,33 @@ begins : (home : Bool) (store : Store) (half : Bool) (len : ℕ) (runs : List �
     → rules.search home max_followed (items_in words store half flight len) runs n ≡ rules.search home left (items_in words store half flight len) runs n
 begins home store half len runs n left e = ap (λ (k : ℕ). rules.search home k (items_in words store half flight len) runs n) (sym e)
 
-abbrev invariant-loop : tie.invariant-loop
-invariant-loop home store half len from runs₀ n₀ left₀ runs n left =
-    (n ≤ size_of flight) × (rules.search home max_followed (items_in words store half flight len) runs₀ from ≡ rules.search home left (items_in words store half flight len) runs n)
+pub loop-left-init : goal.loop-left-init
+loop-left-init c = (search rules, begins _ _ _ _ _ _ _ refl)
 
-abbrev decreases-loop : tie.decreases-loop
-decreases-loop home store half len from runs₀ n₀ left₀ runs n left = left
+pub returns-in_default : goal.returns-in_default
+returns-in_default c = ends_sooner _ _ _ _ _ _ _ _ c.loop-left.invariant.1 _ c.meet-met.ensures c.loop-left-test.true _ c.in_default.in_default-own.keys2 c.settled.ensures
 
-loop-holds : tie.Need-loop-init invariant-loop decreases-loop
-loop-holds c = (search rules, begins _ _ _ _ _ _ _ refl)
+pub counted-after-requires : goal.counted-after-requires
+counted-after-requires c = let a = c.args in
+    let l = c.loop-left in
+    let m = c.meet-met in
+    let f = followed a.home a.store.now a.half a.len l.runs l.n m.result m.ensures c.in-Follows.j c.in-Follows.target c.in-Follows.up c.in-Follows.is in
+    record { j_lt_max_jumps = f.room; j_bound = f.runs }
 
-meet-requires : tie.Need-meet-requires invariant-loop decreases-loop
-meet-requires c κs = search rules
+pub overflow_sub-left : goal.overflow_sub-left
+overflow_sub-left c = omega arith
 
-enum-known-met : tie.Need-enum-known-met invariant-loop decreases-loop
-enum-known-met c = search rules
+pub loop-left-smaller : goal.loop-left-smaller
+loop-left-smaller c = omega arith
 
-settled-requires : tie.Need-settled-requires invariant-loop decreases-loop
-settled-requires c κs = search rules
-
-returns : tie.Need-returns invariant-loop decreases-loop
-returns c =
-    let m = c.before.before in
-    let l = m.before.before in
-    ends_sooner _ _ _ _ _ _ _ _ l.loop.invariant.1 _ m.meet.ensures m.before.loop-test.true _ c.before.match.keys2 c.settled.ensures
-
-counted-requires : tie.Need-counted-requires invariant-loop decreases-loop
-counted-requires c κs =
-    let a = c.before.before.before.before.before.before.before.args in
-    let l = c.before.before.before.before.before.loop in
-    let m = c.before.before.before.meet in
-    let jump = c.before.met.given in
-    let f = followed a.home a.store.now a.half a.len l.runs l.n m.result m.ensures jump.0.0 jump.0.1.0 jump.0.1.1.0 jump.1 in
-    (f.room, f.runs)
-
-sub-left : tie.Need-overflow-sub-left invariant-loop decreases-loop
-sub-left c = omega arith
-
-loop-less : tie.Need-loop-smaller invariant-loop decreases-loop
-loop-less c = omega arith
-
-loop-again : tie.Need-loop-preserved invariant-loop decreases-loop
-loop-again c =
-    let a = c.before.before.before.before.before.before.before.before.args in
-    let l = c.before.before.before.before.before.before.loop in
-    let m = c.before.before.before.before.meet in
-    let jump = c.before.before.met.given in
-    let f = followed a.home a.store.now a.half a.len l.runs l.n m.result m.ensures jump.0.0 jump.0.1.0 jump.0.1.1.0 jump.1 in (
+pub loop-left-preserved : goal.loop-left-preserved
+loop-left-preserved c = let a = c.args in
+    let l = c.loop-left in
+    let m = c.meet-met in
+    let f = followed a.home a.store.now a.half a.len l.runs l.n m.result m.ensures c.in-Follows.j c.in-Follows.target c.in-Follows.up c.in-Follows.is in (
       omega (arith, f.inside),
-      goes_on _ _ _ _ _ _ _ _ l.invariant.1 _ m.ensures c.before.before.before.before.before.loop-test.true _ _ _ _ jump.1 c.counted.ensures,
+      goes_on _ _ _ _ _ _ _ _ l.invariant.1 _ m.ensures c.loop-left-test.true _ _ _ _ c.in-Follows.is c.counted-after.ensures,
     )
 
-meet-requires-2 : tie.Need-meet-requires-2 invariant-loop decreases-loop
-meet-requires-2 c κs = search rules
-
-settled-requires-2 : tie.Need-settled-requires-2 invariant-loop decreases-loop
-settled-requires-2 c κs = search rules
-
-returns-2 : tie.Need-returns-2 invariant-loop decreases-loop
-returns-2 c =
-    let m = c.before in
-    ends_last _ _ _ _ _ _ _ _ m.before.before.loop.invariant.1 _ m.meet2.ensures _ m.before.loop-test.false c.settled2.ensures
-
-pub find_spec : {M : Type 1} → statement M
-find_spec =
-    tie.close
-    (tie.spec
-    invariant-loop
-    decreases-loop
-    loop-holds
-    meet-requires
-    enum-known-met
-    settled-requires
-    returns
-    counted-requires
-    sub-left
-    loop-less
-    loop-again
-    meet-requires-2
-    settled-requires-2
-    returns-2)
+pub returns : goal.returns
+returns c = ends_last _ _ _ _ _ _ _ _ c.loop-left.invariant.1 _ c.meet.ensures _ c.loop-left-test.false c.settled-2.ensures
