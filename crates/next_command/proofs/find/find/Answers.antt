@@ -7,7 +7,7 @@ use mathlib.Core.List.{List, [], ◌∷◌}
 use mathlib.Core.Bool.{Bool}
 use mathlib.Core.Logic.{⊎_elim}
 use lib.ListN.{length, take, drop}
-use types.Run.{OneOf}
+use borrow.Enum.Refused.{Among}
 use denote.Enum.Declared.{tag_of}
 use borrow.Author.Rules.{rules}
 use Rattle.rules.specs.Limits.{flight, max_followed}
@@ -25,7 +25,7 @@ use Rattle.plan_search.specs.contracts.Met.{the_type}
 use Rattle.next_command.proofs.find.find.Goals as goal
 
 -- the variants before the last are no jump
-no_jump : (met : Met) → OneOf (0 ∷ 1 ∷ []) (tag_of the_type met) → (j target : ℕ) (up : Bool) → met ≡ Follows j target up → ⊥
+no_jump : (met : Met) → Among (0 ∷ 1 ∷ []) (tag_of the_type met) → (j target : ℕ) (up : Bool) → met ≡ Follows j target up → ⊥
 no_jump (Ends c) tag j target up e = let z : ◌≡◌ {A = ℕ} 0 1 = cc in omega arith
 no_jump (Stands n c) tag j target up e = let z : ◌≡◌ {A = ℕ} 0 1 = cc in omega arith
 no_jump (Follows k t b) tag j target up e = ⊎_elim (λ h. omega arith) (λ h. omega arith) tag
@@ -39,7 +39,7 @@ module _ (home : Bool) (store : Store) (half : Bool) (len : ℕ) (runs : List �
     one_less : all ≡ rules.search home (suc (left - 1)) items runs n
     one_less = let e : left ≡ suc (left - 1) = omega arith in is ∙ ap (λ (k : ℕ). rules.search home k items runs n) e
 
-    ends_sooner : (r : Found) → OneOf (0 ∷ 1 ∷ []) (tag_of the_type met) → found_of r ≡ settled_as met runs → found_of r ≡ all
+    ends_sooner : (r : Found) → Among (0 ∷ 1 ∷ []) (tag_of the_type met) → found_of r ≡ settled_as met runs → found_of r ≡ all
     ends_sooner r tag er = er ∙ settles_sooner home (left - 1) items runs n met meets (no_jump met tag) ∙ sym one_less
 
     goes_on : (j target : ℕ) (up : Bool) (after : List ℕ) → met ≡ Follows j target up → after ≡ counted_as runs j up → all ≡ rules.search home (left - 1) items after target

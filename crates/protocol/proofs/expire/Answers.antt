@@ -13,8 +13,7 @@ use Rattle.record_steps.specs.Answers.{answer_of}
 use Rattle.answers.specs.Answered.{Handles}
 use Rattle.record_steps.specs.Doing.{timer_done}
 use borrow.Author.Rules.{rules}
-use Rattle.protocol.proofs.expire.Statement.{statement}
-use Rattle.protocol.proofs.expire.Tie as tie
+use Rattle.protocol.proofs.expire.Goals as goal
 
 expired : (p : Plan) (kind clock : ℕ) (to : Station) (turned : Turned) (b b' : Bytes) (r : Handled)
     → station to.system to.component ≡ station_of p.upload
@@ -24,21 +23,5 @@ expired : (p : Plan) (kind clock : ℕ) (to : Station) (turned : Turned) (b b' :
 unfolding timer_done
 expired p kind clock to turned b b' r goes turn handles store = rw (sym goes, sym turn) handles
 
-station-of-requires : tie.Need-station-of-requires
-station-of-requires c κs = search rules
-
-on-timer-requires : tie.Need-on-timer-requires
-on-timer-requires c κs = search rules
-
-told-requires : tie.Need-told-requires
-told-requires c κs = search rules
-
-same_length : tie.Need-same-length
-same_length c = search rules
-
-returns : tie.Need-returns
+pub returns : goal.returns
 returns c store = search (expired, rules)
-
-pub expire-spec : {M : Type 1} → statement M
-expire-spec =
-    tie.close (tie.spec station-of-requires on-timer-requires told-requires same_length returns)

@@ -19,8 +19,7 @@ use Rattle.answers.specs.Answered.{Spoken}
 use Rattle.protocol.specs.Handlers.{DoneBy}
 use Rattle.record_steps.specs.Doing.{IsPlanOf, others_among, clear_effect, clear_done}
 use borrow.Author.Rules.{rules}
-use Rattle.protocol.proofs.clears.clear.Statement.{statement}
-use Rattle.protocol.proofs.clears.clear.Tie as tie
+use Rattle.protocol.proofs.clears.clear.Goals as goal
 
 module _ (p q r : Plan) (from : Station) (kind : ℕ) (b b' : Bytes) (others : Bool) (said : Said)
     (among : others ≡ others_among (p ∷ q ∷ r ∷ []) from (covered kind)) where
@@ -43,43 +42,8 @@ module _ (p q r : Plan) (from : Station) (kind : ℕ) (b b' : Bytes) (others : B
       let t : others_among plans from (covered kind) ≡ false = sym among ∙ is in
       rw (t, sym (ee p q r covers of)) (record { handles = record { effect = refl; spoken = spoken }; store = refl })
 
-others-among-requires : tie.Need-others-among-requires
-others-among-requires c κs = search rules
+pub returns-then-others_among : goal.returns-then-others_among
+returns-then-others_among c store = search (denies, rules)
 
-ack-requires : tie.Need-ack-requires
-ack-requires c κs = search rules
-
-only-requires : tie.Need-only-requires
-only-requires c κs = search rules
-
-same_length : tie.Need-same-length
-same_length c = search rules
-
-returns : tie.Need-returns
-returns c store = search (denies, rules)
-
-ack-requires-2 : tie.Need-ack-requires-2
-ack-requires-2 c κs = search rules
-
-empties-requires : tie.Need-empties-requires
-empties-requires c κs = search rules
-
-same-length-2 : tie.Need-same-length-2
-same-length-2 c = search rules
-
-returns-2 : tie.Need-returns-2
-returns-2 c store = search (clears, rules)
-
-pub clear_spec : {M : Type 1} → statement M
-clear_spec =
-    tie.close
-    (tie.spec
-    others-among-requires
-    ack-requires
-    only-requires
-    same_length
-    returns
-    ack-requires-2
-    empties-requires
-    same-length-2
-    returns-2)
+pub returns : goal.returns
+returns c store = search (clears, rules)

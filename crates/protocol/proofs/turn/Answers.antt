@@ -29,8 +29,7 @@ use Rattle.protocol.specs.Handlers.{DoneBy}
 use Rattle.record_steps.specs.Doing.{plan_done}
 use Rattle.protocol.proofs.Requests.{item_left}
 use borrow.Author.Rules.{rules}
-use Rattle.protocol.proofs.turn.Statement.{statement}
-use Rattle.protocol.proofs.turn.Tie as tie
+use Rattle.protocol.proofs.turn.Goals as goal
 
 module _ (home : Bool) (p : Plan) (current : ℕ) (s : Store) (from : Station) (clock kind id : ℕ) (own : Bytes) where
   abbrev Goal : (s' : Store) (b b' : Bytes) → Handled → Type 0
@@ -77,122 +76,20 @@ module _ (home : Bool) (p : Plan) (current : ℕ) (s : Store) (from : Station) (
           by_request (brings (patterns m.item)) s' b b' r (rw e (ap request_of (sym reads)))
           (record { handles = rw (sym (ap (λ (t : TurnAndStore). t.turned) turn)) handles; store = ap (λ (t : TurnAndStore). t.store) turn })
 
-list-requires : tie.Need-list-requires
-list-requires c κs = search rules
+pub returns-in-43 : goal.returns-in-43
+returns-in-43 c = search (asks_list_lem, rules)
 
-only-requires : tie.Need-only-requires
-only-requires c κs = search rules
+pub returns-in-44 : goal.returns-in-44
+returns-in-44 c = search (counts, rules)
 
-read-count-requires : tie.Need-read-count-requires
-read-count-requires c κs = search rules
+pub returns-in-38 : goal.returns-in-38
+returns-in-38 c = search (changes_part, rules)
 
-size-of-requires : tie.Need-size-of-requires
-size-of-requires c κs = search rules
+pub returns-in-51 : goal.returns-in-51
+returns-in-51 c = search (asks_item_lem, rules)
 
-on-count-requires : tie.Need-on-count-requires
-on-count-requires c κs = search rules
-
-told-requires : tie.Need-told-requires
-told-requires c κs = search rules
-
-read-partial-list-requires : tie.Need-read-partial-list-requires
-read-partial-list-requires c κs = search rules
-
-on-partial-requires : tie.Need-on-partial-requires
-on-partial-requires c κs = search rules
-
-told-requires-2 : tie.Need-told-requires-2
-told-requires-2 c κs = search rules
-
-read-request-int-requires : tie.Need-read-request-int-requires
-read-request-int-requires c κs = search rules
-
-request-requires : tie.Need-request-requires
-request-requires c κs = search rules
-
-only-requires-2 : tie.Need-only-requires-2
-only-requires-2 c κs = search rules
-
-read-item-int-requires : tie.Need-read-item-int-requires
-read-item-int-requires c κs = search rules
-
-take-item-requires : tie.Need-take-item-requires
-take-item-requires c κs = search rules
-
-told-requires-3 : tie.Need-told-requires-3
-told-requires-3 c κs = search rules
-
-same_length : tie.Need-same-length
-same_length c = search rules
-
-returns : tie.Need-returns
-returns c = search (asks_list_lem, rules)
-
-same-length-2 : tie.Need-same-length-2
-same-length-2 c = search rules
-
-returns-2 : tie.Need-returns-2
-returns-2 c = search (counts, rules)
-
-same-length-3 : tie.Need-same-length-3
-same-length-3 c = search rules
-
-returns-3 : tie.Need-returns-3
-returns-3 c = search (changes_part, rules)
-
-same-length-4 : tie.Need-same-length-4
-same-length-4 c = search rules
-
-same-length-5 : tie.Need-same-length-5
-same-length-5 c = search rules
-
-returns-4 : tie.Need-returns-4
-returns-4 c = search (asks_item_lem, rules)
-
-same-length-6 : tie.Need-same-length-6
-same-length-6 c = search rules
-
-same-length-7 : tie.Need-same-length-7
-same-length-7 c = search rules
-
-returns-5 : tie.Need-returns-5
-returns-5 c =
-    let told = c.before.before in
-    let taken = told.before.before.before.before in
-    let read = taken.before.before.before in
-    let rest = read.before.match.rest in
-    let pre = read.before.before.before.before.requires.1 in
+pub returns-in_default : goal.returns-in_default
+returns-in_default c = let rest = c.in_default.in_default-own.rest in
+    let pre = c.requires.own_value in
     brings_item _ _ _ _ _ _ _ _ _ _ _ _ pre.0 pre.1 pre.2 pre.3 rest.0.0.0.1 rest.0.0.1 rest.0.1 rest.1
-    read.read-item-int.result _ _ read.read-item-int.ensures.0 taken.take-item.ensures told.told3.ensures
-
-pub turn_spec : {M : Type 1} → statement M
-turn_spec =
-    tie.close
-    (tie.spec
-    list-requires
-    only-requires
-    read-count-requires
-    size-of-requires
-    on-count-requires
-    told-requires
-    read-partial-list-requires
-    on-partial-requires
-    told-requires-2
-    read-request-int-requires
-    request-requires
-    only-requires-2
-    read-item-int-requires
-    take-item-requires
-    told-requires-3
-    same_length
-    returns
-    same-length-2
-    returns-2
-    same-length-3
-    returns-3
-    same-length-4
-    same-length-5
-    returns-4
-    same-length-6
-    same-length-7
-    returns-5)
+    c.read_item_int-m.result _ _ c.read_item_int-m.ensures.0 c.take_item-turned.ensures c.told-in_default.ensures

@@ -12,8 +12,7 @@ use Rattle.rules.specs.Calls.{is_known}
 use Rattle.rules.specs.Step.{kind_ok}
 use Rattle.refusal.specs.Refusals.{request_of}
 use Rattle.protocol.proofs.Requests.{kind_known}
-use Rattle.protocol.proofs.kind_ok.Statement.{statement}
-use Rattle.protocol.proofs.kind_ok.Tie as tie
+use Rattle.protocol.proofs.kind_ok.Goals as goal
 
 of_clear : (id kind : ℕ) (p : Bytes) → id ≡ clear_all_id → (is_known kind || eqb kind every_kind) ≡ kind_ok kind (request_of (decode id p))
 unfolding decode message_of kind_ok
@@ -23,14 +22,11 @@ of_ack : (id kind : ℕ) (p : Bytes) → id ≡ ack_id → true ≡ kind_ok kind
 unfolding decode message_of kind_ok
 of_ack id kind p e = rw e
 
-returns : tie.Need-returns
-returns c p = search (of_clear, rules)
+pub returns-in-45 : goal.returns-in-45
+returns-in-45 c p = search (of_clear, rules)
 
-returns-2 : tie.Need-returns-2
-returns-2 c p = search (of_ack, rules)
+pub returns-in-47 : goal.returns-in-47
+returns-in-47 c p = search (of_ack, rules)
 
-returns-3 : tie.Need-returns-3
-returns-3 c p = search (kind_known, rules)
-
-pub kind-ok-spec : {M : Type 1} → statement M
-kind-ok-spec = tie.close (tie.spec returns returns-2 returns-3)
+pub returns-in_default : goal.returns-in_default
+returns-in_default c p = search (kind_known, rules)

@@ -29,8 +29,7 @@ use Rattle.protocol.specs.Handlers.{DoneBy}
 use Rattle.record_steps.specs.Doing.{IsPlanOf, plan_among, clear_done, plan_done, known_done, message_done}
 use Rattle.protocol.proofs.Requests.{kind_known, of_one_plan}
 use borrow.Author.Rules.{rules}
-use Rattle.protocol.proofs.answer.Statement.{statement}
-use Rattle.protocol.proofs.answer.Tie as tie
+use Rattle.protocol.proofs.answer.Goals as goal
 
 -- the kinds that a message may have
 module _ (kind id : ℕ) (ok : Bool) (oks : (payload : Bytes) → ok ≡ kind_ok kind (request_of (decode id payload))) (may : not ok ≡ false) where
@@ -94,106 +93,36 @@ module _ (home : Bool) (p q r : Plan) (current : ℕ) (s : Store) (from : Statio
         → Goal s b b h
     acknowledged x b h m e reads of done = by_request (acknowledges m.result) s b b h (rw e (ap request_of (sym reads))) (done home p q r current s clock b of)
 
-kind-ok-requires : tie.Need-kind-ok-requires
-kind-ok-requires c κs = search rules
+pub returns-then-not-kind_ok : goal.returns-then-not-kind_ok
+returns-then-not-kind_ok c = search (unsupported_kind, rules)
 
-ack-requires : tie.Need-ack-requires
-ack-requires c κs = search rules
+pub clear-requires : goal.clear-requires
+clear-requires c = search (known_or_every, rules)
 
-only-requires : tie.Need-only-requires
-only-requires c κs = search rules
-
-same_length : tie.Need-same-length
-same_length c = search rules
-
-returns : tie.Need-returns
-returns c = search (unsupported_kind, rules)
-
-read-set-current-requires : tie.Need-read-set-current-requires
-read-set-current-requires c κs = search rules
-
-flown-requires : tie.Need-flown-requires
-flown-requires c κs = search rules
-
-set-current-requires : tie.Need-set-current-requires
-set-current-requires c κs = search rules
-
-clear-requires : tie.Need-clear-requires
-clear-requires c κs = search (known_or_every, rules)
-
-read-ack-requires : tie.Need-read-ack-requires
-read-ack-requires c κs = search rules
-
-acknowledge-requires : tie.Need-acknowledge-requires
-acknowledge-requires c κs = search rules
-
-turn-requires : tie.Need-turn-requires
-turn-requires c κs =
-    let other = c.before.before in
-    let rest = other.match.rest in
-    let test = other.before in
-    let oks = test.before.Kind-ok.ensures in
-    let pre = test.before.before.before.before.pre in
+pub turn-requires : goal.turn-requires
+turn-requires c = let rest = c.in_default.in_default-own.rest in
+    let pre = c.requires in
+    let may = ap not c.if-not-kind_ok.false in
     let n45 = rest.0.1 in
-    let n47 = rest.1 in (
-      (known_kind _ _ _ oks test.if1.left n45 n47, plan_ranged_lem _ _ _ oks test.if1.left n45 n47 _ _ _ _ pre.0 pre.1, pre.2, pre.3),
-      (pre.4, rest.0.0.1, n45, n47),
-    )
+    let n47 = rest.1 in
+    record {
+      kind_le_rally = (known_kind _ _ _ c.kind_ok.ensures may n45 n47, plan_ranged_lem _ _ _ c.kind_ok.ensures may n45 n47 _ _ _ _ pre.0 pre.1, pre.2, pre.3);
+      own_value = (pre.4, rest.0.0.1, n45, n47);
+    }
 
-same-length-2 : tie.Need-same-length-2
-same-length-2 c = search rules
+pub returns-in-41 : goal.returns-in-41
+returns-in-41 c = search (sets_current_lem, rules)
 
-returns-2 : tie.Need-returns-2
-returns-2 c = search (sets_current_lem, rules)
+pub returns-in-45 : goal.returns-in-45
+returns-in-45 c = search (clears_all, rules)
 
-same-length-3 : tie.Need-same-length-3
-same-length-3 c = search rules
+pub returns-in-47 : goal.returns-in-47
+returns-in-47 c = search (acknowledged, rules)
 
-returns-3 : tie.Need-returns-3
-returns-3 c = search (clears_all, rules)
-
-returns-4 : tie.Need-returns-4
-returns-4 c = search (acknowledged, rules)
-
-same-length-4 : tie.Need-same-length-4
-same-length-4 c = search rules
-
-same-length-5 : tie.Need-same-length-5
-same-length-5 c = search rules
-
-returns-5 : tie.Need-returns-5
-returns-5 c =
-    let turned = c.before.before.before.before in
-    let other = turned.before.before.before in
-    let rest = other.match.rest in
-    let test = other.before in
-    let oks = test.before.Kind-ok.ensures in
-    let pre = test.before.before.before.before.pre in
+pub returns-in_default : goal.returns-in_default
+returns-in_default c = let rest = c.in_default.in_default-own.rest in
+    let pre = c.requires in
+    let may = ap not c.if-not-kind_ok.false in
     let n45 = rest.0.1 in
-    turns_plan _ _ _ _ _ _ _ _ _ _ _ _ oks test.if1.left _ _ _ _ _ rest.0.0.1 n45
-    (pre.0 (known_kind _ _ _ oks test.if1.left n45 rest.1)) turned.turn.ensures
-
-pub answer-spec : {M : Type 1} → statement M
-answer-spec =
-    tie.close
-    (tie.spec
-    kind-ok-requires
-    ack-requires
-    only-requires
-    same_length
-    returns
-    read-set-current-requires
-    flown-requires
-    set-current-requires
-    clear-requires
-    read-ack-requires
-    acknowledge-requires
-    turn-requires
-    same-length-2
-    returns-2
-    same-length-3
-    returns-3
-    returns-4
-    same-length-4
-    same-length-5
-    returns-5)
+    turns_plan _ _ _ _ _ _ _ _ _ _ _ _ c.kind_ok.ensures may _ _ _ _ _ rest.0.0.1 n45
+    (pre.0 (known_kind _ _ _ c.kind_ok.ensures may n45 rest.1)) c.turn.ensures

@@ -13,8 +13,7 @@ use Rattle.upload.specs.Turns.{emptied}
 use Rattle.record_steps.specs.Doing.{IsPlanOf, clear_effect}
 use Rattle.protocol.proofs.Covering.{one}
 use borrow.Author.Rules.{rules}
-use Rattle.protocol.proofs.clears.empties.Statement.{statement}
-use Rattle.protocol.proofs.clears.empties.Tie as tie
+use Rattle.protocol.proofs.clears.empties.Goals as goal
 
 module _ (kind : ℕ) (p q s : Plan) where
   every : kind ≡ every_kind → EmptiesAll ≡ clear_effect (p ∷ q ∷ s ∷ []) kind
@@ -24,14 +23,8 @@ module _ (kind : ℕ) (p q s : Plan) where
       → Renews y ≡ clear_effect (p ∷ q ∷ s ∷ []) kind
   itself x y other ey covers of = simp (ne_eqb kind every_kind other, ey, of (one kind covers other))
 
-returns : tie.Need-returns
-returns c p q s covers of = search (every, rules)
+pub returns-then-kind-eq-EVERY_KIND : goal.returns-then-kind-eq-EVERY_KIND
+returns-then-kind-eq-EVERY_KIND c p q s covers of = search (every, rules)
 
-emptied-requires : tie.Need-emptied-requires
-emptied-requires c κs = search rules
-
-returns-2 : tie.Need-returns-2
-returns-2 c p q s covers of = search (itself, rules)
-
-pub empties-spec : {M : Type 1} → statement M
-empties-spec = tie.close (tie.spec returns emptied-requires returns-2)
+pub returns : goal.returns
+returns c p q s covers of = search (itself, rules)

@@ -22,8 +22,7 @@ use Rattle.answers.specs.Answered.{said, spoken_silent}
 use Rattle.protocol.specs.Handlers.{DoneBy}
 use Rattle.record_steps.specs.Doing.{IsPlanOf, plan_among, plan_done, known_done}
 use borrow.Author.Rules.{rules}
-use Rattle.protocol.proofs.acknowledge.Statement.{statement}
-use Rattle.protocol.proofs.acknowledge.Tie as tie
+use Rattle.protocol.proofs.acknowledge.Goals as goal
 
 says_nothing : (p : Plan) (from : Station) (result : ℕ) → (ack_turned p from result).say ≡ Silent
 unfolding ack_turned
@@ -57,25 +56,8 @@ module _ (kind result : ℕ) (from : Station) (home : Bool) (p q s : Plan) (curr
   unfolding ack_turned own_upload
   ignored quiet h more none is = rw is (turned_so (keeps Silent) quiet (rw (above p q s kind more)) none)
 
-silent-requires : tie.Need-silent-requires
-silent-requires c κs = search rules
+pub returns-then-kind-gt-RALLY : goal.returns-then-kind-gt-RALLY
+returns-then-kind-gt-RALLY c home p q s current store clock b of = search (ignored, rules)
 
-only-requires : tie.Need-only-requires
-only-requires c κs = search rules
-
-returns : tie.Need-returns
-returns c home p q s current store clock b of = search (ignored, rules)
-
-on-ack-requires : tie.Need-on-ack-requires
-on-ack-requires c κs = search rules
-
-silent-requires-2 : tie.Need-silent-requires-2
-silent-requires-2 c κs = search rules
-
-returns-2 : tie.Need-returns-2
-returns-2 c home p q s current store clock b of = search (acknowledged, rules)
-
-pub acknowledge-spec : {M : Type 1} → statement M
-acknowledge-spec =
-    tie.close
-    (tie.spec silent-requires only-requires returns on-ack-requires silent-requires-2 returns-2)
+pub returns : goal.returns
+returns c home p q s current store clock b of = search (acknowledged, rules)
