@@ -1,5 +1,7 @@
 // The calls that the drone's own program makes, a timer call and "command done", and what a call returns. None asks anything of its caller. What each promises is
 // `Serves` of specs/Calls.antt, over the rules' own step.
+#![tactic(auto)]
+
 ghost use Rattle.std.specs.Prelude.{[], length};
 ghost use Rattle.rules.specs.Calls as calls;
 ghost use Rattle.own_calls.specs.Calls.{Serves, served_result, advance_result};

@@ -1,6 +1,7 @@
 // The drone's mission service: a fresh start, a message, a timer call and "command done". These are its only public calls; none asks anything of its
 // caller, and no function below them takes or gives the state. What each promises is `Serves` of own_calls/specs/Calls.antt, over the rules' own step.
 #![tactic(auto)]
+
 ghost use Rattle.std.specs.Prelude.{◌≡◌, ◌≤◌, ◌<◌, length};
 ghost use Rattle.rules.specs.Limits as limits;
 ghost use Rattle.rules.specs.Limits.{kinds};

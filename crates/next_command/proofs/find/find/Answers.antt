@@ -7,7 +7,8 @@ use mathlib.Core.List.{List, [], ◌∷◌}
 use mathlib.Core.Bool.{Bool}
 use mathlib.Core.Logic.{⊎_elim}
 use lib.ListN.{length, take, drop}
-use borrow.Enum.Refused.{Among}
+use borrow.Enum.Refused.{opened}
+use types.Run.{OneOf}
 use denote.Enum.Declared.{tag_of}
 use borrow.Author.Rules.{rules}
 use Rattle.rules.specs.Limits.{flight, max_followed}
@@ -25,7 +26,7 @@ use Rattle.plan_search.specs.contracts.Met.{the_type}
 use Rattle.next_command.proofs.find.find.Goals as goal
 
 -- the variants before the last are no jump
-no_jump : (met : Met) → Among (0 ∷ 1 ∷ []) (tag_of the_type met) → (j target : ℕ) (up : Bool) → met ≡ Follows j target up → ⊥
+no_jump : (met : Met) → OneOf (0 ∷ 1 ∷ []) (tag_of the_type met) → (j target : ℕ) (up : Bool) → met ≡ Follows j target up → ⊥
 no_jump (Ends c) tag j target up e = let z : ◌≡◌ {A = ℕ} 0 1 = cc in omega arith
 no_jump (Stands n c) tag j target up e = let z : ◌≡◌ {A = ℕ} 0 1 = cc in omega arith
 no_jump (Follows k t b) tag j target up e = ⊎_elim (λ h. omega arith) (λ h. omega arith) tag
@@ -39,7 +40,7 @@ module _ (home : Bool) (store : Store) (half : Bool) (len : ℕ) (runs : List �
     one_less : all ≡ rules.search home (suc (left - 1)) items runs n
     one_less = let e : left ≡ suc (left - 1) = omega arith in is ∙ ap (λ (k : ℕ). rules.search home k items runs n) e
 
-    ends_sooner : (r : Found) → Among (0 ∷ 1 ∷ []) (tag_of the_type met) → found_of r ≡ settled_as met runs → found_of r ≡ all
+    ends_sooner : (r : Found) → OneOf (0 ∷ 1 ∷ []) (tag_of the_type met) → found_of r ≡ settled_as met runs → found_of r ≡ all
     ends_sooner r tag er = er ∙ settles_sooner home (left - 1) items runs n met meets (no_jump met tag) ∙ sym one_less
 
     goes_on : (j target : ℕ) (up : Bool) (after : List ℕ) → met ≡ Follows j target up → after ≡ counted_as runs j up → all ≡ rules.search home (left - 1) items after target
@@ -69,7 +70,7 @@ pub loop-left-init : goal.loop-left-init
 loop-left-init c = (search rules, begins _ _ _ _ _ _ _ refl)
 
 pub returns-in_default : goal.returns-in_default
-returns-in_default c = ends_sooner _ _ _ _ _ _ _ _ c.loop-left.invariant.1 _ c.meet-met.ensures c.loop-left-test.true _ c.in_default.in_default-own.keys2 c.settled.ensures
+returns-in_default c = ends_sooner _ _ _ _ _ _ _ _ c.loop-left.invariant.1 _ c.meet-met.ensures c.loop-left-test.true _ (opened c.in_default.in_default-own.keys2) c.settled.ensures
 
 pub counted-after-requires : goal.counted-after-requires
 counted-after-requires c = let a = c.args in
