@@ -1,4 +1,6 @@
 // What a call answers: its effect on the state, and what is said back, to a station and about a kind, with the reply written.
+#![tactic(auto)]
+
 ghost use Rattle.std.specs.Prelude.{◌≡◌, ◌≤◌, length};
 ghost use Rattle.rules.specs.Limits.{no_reply, reply_bytes_min};
 ghost use Rattle.rules.specs.Messages.{station};

@@ -1,4 +1,6 @@
 // The lines of a dump: the plans and uploads of each kind, the current item, and whether item 0 is home.
+#![tactic(auto)]
+
 mod plans;
 
 ghost use Rattle.std.specs.Prelude.{◌≡◌};

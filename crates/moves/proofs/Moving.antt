@@ -1,7 +1,7 @@
 -- What a store shows after the items of the three plans of a state were moved.
 use Prim.Native.Nat.{ℕ, ◌≤◌}
 use Rattle.std.proofs.Common.{arith, ◌∙◌}
-use Rattle.std.specs.Prelude.{◌≡◌, false, length, get_or}
+use Rattle.std.specs.Prelude.{◌≡◌, false, ◌||◌, length, get_or}
 use Rattle.std.proofs.Math.Path.{refl}
 use Rattle.rules.specs.Limits.{flight, fence, rally, size_of}
 use Rattle.rule_laws.specs.Tests.{neither, outside}

@@ -1,5 +1,7 @@
 // The next command: what a "command done" call answers, and the item and the jump counts after it. Looking at the items is left to the crate plan_search,
 // following jumps is in find.
+#![tactic(auto)]
+
 mod find;
 
 ghost use Rattle.std.specs.Prelude.{◌≡◌, cond, ◌+◌, ◌≤◌, ◌<◌, length};

@@ -1,5 +1,7 @@
 // One message call that is not refused: kind first, then what its message does to one plan; and a timer call. The state itself stays with the public call: what
 // comes out is the effect on it.
+#![tactic(auto)]
+
 mod clears;
 
 ghost use Rattle.std.specs.Prelude.{◌≡◌, Bool, true, [], ◌∷◌, ℕ, ◌≤◌, length};

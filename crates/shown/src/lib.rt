@@ -1,4 +1,6 @@
 // The messages that ask for what is shown, and SET_CURRENT, which chooses among it.
+#![tactic(auto)]
+
 ghost use Rattle.std.specs.Prelude.{◌≡◌, ◌≤◌, length};
 ghost use Rattle.rules.specs.Limits.{rally, size_of, store_words, reply_bytes_min};
 ghost use Rattle.rules.specs.Messages.{station};

@@ -38,7 +38,7 @@ loop-i-smaller c = omega arith
 pub loop-i-preserved : goal.loop-i-preserved
 loop-i-preserved c = let a = c.args in
     let l = c.loop-i in
-    let after = c.keep.new.0 in
+    let after = c.keep.new.store in
     let next : after ≡ movedItems a.old.now a.store.now a.half a.kind (l.i + 1) =
     one_more a.old.now a.store.now l.store after a.half a.kind l.i _ l.invariant.2 c.old_item-item.ensures
     c.keep.ensures.0 in (

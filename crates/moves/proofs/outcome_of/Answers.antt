@@ -11,8 +11,8 @@ use borrow.Author.Tests.{not-true, not-false}
 use Rattle.moves.proofs.outcome_of.Goals as goal
 
 module _ (ranged : Bool) (old new : ℕ) (long : (ltb old (least bytes) || ltb new (least words)) ≡ false) where
-  out_of_range : not ranged ≡ true → out_of_range ≡ outcome_of ranged old new
-  out_of_range out = simp (long, not-true ranged out)
+  out_of_range_lem : not ranged ≡ true → out_of_range ≡ outcome_of ranged old new
+  out_of_range_lem out = simp (long, not-true ranged out)
 
   moves_on : not ranged ≡ false → no_reply ≡ outcome_of ranged old new
   moves_on fine = simp (long, not-false ranged fine)
@@ -21,7 +21,7 @@ pub returns-then-old_len-len : goal.returns-then-old_len-len
 returns-then-old_len-len c = rw c.if-old_len-len.true refl
 
 pub returns-then-not-ranged : goal.returns-then-not-ranged
-returns-then-not-ranged c = search (out_of_range, rules)
+returns-then-not-ranged c = search (out_of_range_lem, rules)
 
 pub returns : goal.returns
 returns c = search (moves_on, rules)
