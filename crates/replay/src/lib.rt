@@ -1,5 +1,6 @@
 // A whole list of message and timer calls, played over the service from a fresh start, for a program in another language that measures it. The calls are the
 // service's, and what they promise is said there.
+#![tactic(auto)]
 
 // A call of the list stands in a slot: 0 message (1) or timer (2), 1 and 2 own system and component, 3 and 4 the sender's, 5 kind, 6 length of the payload,
 // 8 id, 12 clock, 16 payload.
