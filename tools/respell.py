@@ -106,7 +106,7 @@ def main(argv):
                 how = antt
             elif not pages and crate and name.endswith(".rt"):
                 how = rt
-            elif pages and name.endswith(".md"):
+            elif pages and name.endswith(".md") and name != "PORT.md":
                 how = page
             elif pages and (name.endswith(".edit") or inside.startswith(os.path.join(".ci", "mutants.d"))):
                 how = edit

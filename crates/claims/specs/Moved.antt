@@ -31,12 +31,12 @@ all_lent size [] long = tt
 all_lent size (c ∷ cs) long = (omega arith, all_lent size cs (omega arith))
 
 -- nothing is shown of an upload
-abbrev atRest : Model → Model
-atRest m = record { shown = m.shown; uploads = map (λ (kind : ℕ). idle) kinds }
+abbrev at_rest : Model → Model
+at_rest m = record { shown = m.shown; uploads = map (λ (kind : ℕ). idle) kinds }
 
 -- what words show in their ranges
-rest-same : (w : World) → in_range (shows w) ≡ true → moved (shows w) ≡ atRest (shows w)
-rest-same w ranged =
+rest_same : (w : World) → in_range (shows w) ≡ true → moved (shows w) ≡ at_rest (shows w)
+rest_same w ranged =
     moved_same w.state w.store (λ kind known. len_ranged words words_lawful w.state w.store ranged kind (le-leb kind rally known))
 
 pub shows_as_before :
@@ -50,4 +50,4 @@ shows_as_before home t cs hs z over-bytes fit new st' new' outcome moves done =
     let w = over-words.ends in
     let same : shows w ≡ byte_shows z = (answers_as_over_bytes home s t cs over-words.given hs w z over-words.trace over-bytes).1 in
     let ranged : in_range (byte_shows z) ≡ true = (movable (in_range (byte_shows z)) (length z.store) (length new) (sym moves.answer ∙ done)).in_range in
-    moves.shown done ∙ ap moved (sym same) ∙ rest-same w (ap in_range same ∙ ranged) ∙ ap atRest same
+    moves.shown done ∙ ap moved (sym same) ∙ rest_same w (ap in_range same ∙ ranged) ∙ ap at_rest same

@@ -18,8 +18,8 @@ use Rattle.ranges.specs.Ranged.{PlanRanges, plans_ranged_lem, plan_ranges}
 use Rattle.upload.specs.Turns.{ended}
 use Rattle.moves.specs.Moves.{outcome_of, MovesToWords}
 use Rattle.moves.specs.Outcome.{Movable, movable}
-use Rattle.moves.specs.Moving.{movedPlans, endedState}
-use Rattle.moves.proofs.Moving.{plans-length, plans_moved, plans_beside}
+use Rattle.moves.specs.Moving.{moved_plans, ended_state}
+use Rattle.moves.proofs.Moving.{plans_length, plans_moved, plans_beside}
 
 module _ (st : State) (old new : Store) (ranged : Bool) (outcome : ℕ)
     (test : ranged ≡ all_ranged (plan_of st flight) (plan_of st fence) (plan_of st rally) st.current st.counts)
@@ -42,19 +42,19 @@ module _ (st : State) (old new : Store) (ranged : Bool) (outcome : ℕ)
     pub facts : Movable ranged (length old) (length new)
     facts = movable ranged (length old) (length new) (sym said ∙ done)
 
-    pub plans-in-range : plans_ranged (plan_of st flight) (plan_of st fence) (plan_of st rally) ≡ true
-    plans-in-range = plans_ranged_lem (plan_of st flight) (plan_of st fence) (plan_of st rally) st.current st.counts (sym test ∙ facts.in_range)
+    pub plans_in_range : plans_ranged (plan_of st flight) (plan_of st fence) (plan_of st rally) ≡ true
+    plans_in_range = plans_ranged_lem (plan_of st flight) (plan_of st fence) (plan_of st rally) st.current st.counts (sym test ∙ facts.in_range)
 
     within : (kind : ℕ) → kind ≤ rally → (plan_of st kind).len ≤ size_of kind
     within kind known =
         let of : (k : ℕ) → k ≤ rally → PlanRanges k (get_or (plan_of st flight ∷ plan_of st fence ∷ plan_of st rally ∷ []) k empty_plan) =
-        plan_ranges (plan_of st flight) (plan_of st fence) (plan_of st rally) plans-in-range in
+        plan_ranges (plan_of st flight) (plan_of st fence) (plan_of st rally) plans_in_range in
         each_kind (λ (k : ℕ). (plan_of st k).len ≤ size_of k) (of flight (omega arith)).len (of fence (omega arith)).len (of rally (omega arith)).len kind (le-leb kind rally known)
 
-    halves_stay : (kind : ℕ) → kind ≤ rally → (plan_of (endedState st) kind).half ≡ (plan_of st kind).half
-    halves_stay kind known = each_kind (λ (k : ℕ). (plan_of (endedState st) k).half ≡ (plan_of st k).half) refl refl refl kind (le-leb kind rally known)
+    halves_stay : (kind : ℕ) → kind ≤ rally → (plan_of (ended_state st) kind).half ≡ (plan_of st kind).half
+    halves_stay kind known = each_kind (λ (k : ℕ). (plan_of (ended_state st) k).half ≡ (plan_of st k).half) refl refl refl kind (le-leb kind rally known)
 
-    moves_all : MovesToWords st old new (endedState st) (movedPlans old new (plan_of st flight) (plan_of st fence) (plan_of st rally)) outcome
+    moves_all : MovesToWords st old new (ended_state st) (moved_plans old new (plan_of st flight) (plan_of st fence) (plan_of st rally)) outcome
     moves_all =
         record {
           answer = answered;
@@ -62,12 +62,12 @@ module _ (st : State) (old new : Store) (ranged : Bool) (outcome : ℕ)
           halves = halves_stay;
           unchanged = λ other. absurd (other done);
           beside = plans_beside st old within new facts.new_long;
-          long = plans-length st old within new facts.new_long;
+          long = plans_length st old within new facts.new_long;
         }
 
     -- the state and the store as the code has them
     pub moves :
         (p q r : Plan) (new' : Store) → p ≡ ended (plan_of st flight) → q ≡ ended (plan_of st fence) → r ≡ ended (plan_of st rally)
-        → new' ≡ movedPlans old new (plan_of st flight) (plan_of st fence) (plan_of st rally)
+        → new' ≡ moved_plans old new (plan_of st flight) (plan_of st fence) (plan_of st rally)
         → MovesToWords st old new (record { plans = p ∷ q ∷ r ∷ []; current = st.current; begun = st.begun; home = st.home; counts = st.counts }) new' outcome
     moves p q r new' ep eq er es = rw (ep, eq, er, es) moves_all

@@ -8,7 +8,7 @@ ghost use Rattle.item.specs.Patterns.{item_for};
 ghost use Rattle.places.specs.Forms.{words, bytes, least, offset_of, item_at};
 ghost use Rattle.ranges.specs.Ranges.{plans_ranged};
 ghost use Rattle.moves.specs.Moves.{outcome_of, MovesToWords};
-ghost use Rattle.moves.specs.Moving.{movedItems, movedPlans};
+ghost use Rattle.moves.specs.Moving.{moved_items, moved_plans};
 
 use item::Item;
 use limits::{FENCE, FLIGHT, ITEM_BYTES, NO_REPLY, OUT_OF_RANGE, RALLY, SHORT_STORE, STORE_WORDS};
@@ -48,7 +48,7 @@ fn old_item(old: &[u8], kind: u8, half: bool, n: u16) -> Item
 // The first n items of a kind in a half go to their places among the words.
 fn move_items(old: &[u8], store: &mut [u32], kind: u8, half: bool, n: u16)
     requires { (least bytes ≤ length old.now) × (least words ≤ length store.old) × (kind ≤ rally) × (n ≤ size_of kind) }
-    ensures { store.new ≡ movedItems old.now store.old half kind n }
+    ensures { store.new ≡ moved_items old.now store.old half kind n }
 {
     let mut i: u16 = 0;
     while i < n {
@@ -61,7 +61,7 @@ fn move_items(old: &[u8], store: &mut [u32], kind: u8, half: bool, n: u16)
 // The items of the three plans, each in its own half.
 fn move_plans(old: &[u8], store: &mut [u32], flight: Plan, fence: Plan, rally: Plan)
     requires { (least bytes ≤ length old.now) × (least words ≤ length store.old) × (plans_ranged flight fence rally ≡ true) }
-    ensures { store.new ≡ movedPlans old.now store.old flight fence rally }
+    ensures { store.new ≡ moved_plans old.now store.old flight fence rally }
 {
     move_items(old, store, FLIGHT, flight.half, flight.len);
     move_items(old, store, FENCE, fence.half, fence.len);

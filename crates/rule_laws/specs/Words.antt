@@ -111,10 +111,10 @@ stored_says i =
     (omega arith, (omega arith, (omega arith, (omega arith, (omega arith, (omega arith, (omega arith, (omega arith, (omega arith, (omega arith, (omega arith, (omega arith, (omega arith, (omega arith, (omega arith, tt)))))))))))))))
 
 -- the words of the stored item that words are, at the same place, are that stored item
-pub words-again :
+pub words_again :
     (w : List ℕ) (kind n : ℕ) → kind < byte_values → n < byte_values ^ 2
     → item_of (item_of_words (words_of (item_in (item_of (item_of_words w kind n)))) kind n) ≡ item_of (item_of_words w kind n)
-words-again w kind n hk hn =
+words_again w kind n hk hn =
     let i = item_of_words w kind n in
     ap (λ (j : Item). item_of (item_of_words (words_of j) kind n)) (stored_says i)
     ∙ ap₂ (λ (k s : ℕ). item_of (item_of_words (words_of (cut i)) k s)) (sym (mod-eq_of_lt hk)) (sym (mod-eq_of_lt hn))

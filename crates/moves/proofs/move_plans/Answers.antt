@@ -6,17 +6,17 @@ use Rattle.rules.specs.Limits.{flight, fence, rally}
 use Rattle.places.specs.Forms.{Store}
 use Rattle.plan.specs.declared.Plan.{Plan}
 use Rattle.ranges.specs.Ranged.{plan_ranges}
-use Rattle.moves.specs.Moving.{movedItems, movedPlans}
+use Rattle.moves.specs.Moving.{moved_items, moved_plans}
 use Rattle.moves.proofs.move_plans.Goals as goal
 
 -- the three turns, with the stores between them as variables
-all_moved : (old new one two three : Store) (p q r : Plan) → one ≡ movedItems old new p.half flight p.len → two ≡ movedItems old one q.half fence q.len
-    → three ≡ movedItems old two r.half rally r.len → three ≡ movedPlans old new p q r
-unfolding movedPlans
+all_moved : (old new one two three : Store) (p q r : Plan) → one ≡ moved_items old new p.half flight p.len → two ≡ moved_items old one q.half fence q.len
+    → three ≡ moved_items old two r.half rally r.len → three ≡ moved_plans old new p q r
+unfolding moved_plans
 all_moved old new one two three p q r first second third =
     third
-    ∙ ap (λ (s : Store). movedItems old s r.half rally r.len) second
-    ∙ ap (λ (s : Store). movedItems old (movedItems old s q.half fence q.len) r.half rally r.len) first
+    ∙ ap (λ (s : Store). moved_items old s r.half rally r.len) second
+    ∙ ap (λ (s : Store). moved_items old (moved_items old s q.half fence q.len) r.half rally r.len) first
 
 pub move_items-requires : goal.move_items-requires
 move_items-requires c = let a = c.args in
