@@ -2,6 +2,7 @@
 crates/NAME/out, so that nothing is proved a second time."""
 import os
 import subprocess
+import sys
 
 ROOT = os.path.dirname(os.path.dirname(os.path.abspath(__file__)))
 KIT = os.path.dirname(subprocess.run(["rt", "doc"], capture_output=True, text=True, check=True).stdout.strip())
@@ -41,7 +42,9 @@ def settle():
     if any(os.path.exists(os.path.join(ROOT, "crates", crate, "out", "rlib", "stamp")) for crate in CRATES):
         tops = [crate for crate in CRATES if not any(crate in used for used, _ in CRATES.values())]
         for crate in tops:
-            subprocess.run(["rt", "check"], cwd=os.path.join(ROOT, "crates", crate), capture_output=True, check=True)
+            ran = subprocess.run(["rt", "check"], cwd=os.path.join(ROOT, "crates", crate), stdin=subprocess.DEVNULL, capture_output=True, text=True)
+            if ran.returncode != 0:
+                sys.exit(f"{crate} is not proved\n{(ran.stdout + ran.stderr)[-2000:]}")
 
 
 def compiler(verb, crate, to, place=library, folder=None, jobs=1):
