@@ -1,3 +1,4 @@
+-- `replay::douzanelh_replay` meets its contract: slots lie within the list, the lent slices keep their lengths, and the state stands in one of two places.
 use Rattle.std.proofs.Common.{◌≡◌, ◌-◌, ◌≤◌, length}
 use Rattle.replay.proofs.douzanelh_replay.Given as goal
 

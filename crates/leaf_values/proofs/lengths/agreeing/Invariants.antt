@@ -1,3 +1,4 @@
+-- `leaf_values::lengths::agreeing` meets its contract: the count stays below the lengths passed.
 use Prim.Native.Nat.{◌-◌, ◌≤◌}
 use Rattle.leaf_values.proofs.lengths.agreeing.Given as goal
 
