@@ -9,7 +9,8 @@ ghost use Rattle.rules.specs.Limits.{flight, size_of};
 ghost use Rattle.rules.specs.Messages.{item_in};
 ghost use Rattle.rules.specs.NextCommand.{command_of, meets, search_from};
 ghost use Rattle.item.specs.Patterns.{item_for, patterns};
-ghost use Rattle.places.specs.Forms.{words, item_at, items_in};
+ghost use Rattle.places.specs.Forms.{words, item_at};
+ghost use Rattle.plan_search.specs.PlanItems.{flight_items};
 ghost use Rattle.plan_search.specs.Orders.{command_for};
 ghost use Rattle.rule_laws.specs.Valid.{ServoFits};
 ghost use Rattle.plan_search.specs.Meeting.{met_for, look_as, jump_as};
@@ -83,7 +84,7 @@ impl Flight<'_> {
 
     // From item n on, with j jumps before it.
     fn scan(self, counts: [u16; JUMP_COUNTS], from: u16, before: u16) -> Met
-        ensures { result ≡ met_for (meets self.entry.home self.entry.len counts (drop from (items_in words self.entry.store.now self.entry.half flight self.entry.len)) from before) }
+        ensures { result ≡ met_for (meets self.entry.home self.entry.len counts (drop from (flight_items self.entry)) from before) }
     {
         for n in from..self.len {
             if let Some(met) = self.look_at(counts, n, before + (n - from)) {
@@ -96,7 +97,7 @@ impl Flight<'_> {
     // What a search from item n meets.
     pub fn meet(self, counts: [u16; JUMP_COUNTS], n: u16) -> Met
         requires { n ≤ size_of flight }
-        ensures { result ≡ met_for (search_from self.entry.home (items_in words self.entry.store.now self.entry.half flight self.entry.len) counts n) }
+        ensures { result ≡ met_for (search_from self.entry.home (flight_items self.entry) counts n) }
     {
         let before = places::jumps(self.store, FLIGHT, self.half, n);
         self.scan(counts, n, before)
