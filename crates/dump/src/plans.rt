@@ -62,7 +62,7 @@ fn put_items(
     let mut n = from;
     while n < to {
         let place = places::place_at(kind, half, n);
-        let bytes = stored_item(text::part_words(store, place, ITEM_WORDS), kind, n);
+        let bytes = stored_item(text::part(store, place, ITEM_WORDS), kind, n);
         end = put_item(out, end, letter, kind, n, &bytes);
         n += 1;
     }

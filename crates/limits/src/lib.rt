@@ -1,6 +1,9 @@
-// The documents' kinds, results and limits as constants of the code. What each is called in the specifications is in
+// The documents' kinds and limits as constants of the code, and what is refused as enums. What each is called in the specifications is in
 // crates/rules/specs/Limits.antt, of the commands in Items.antt.
 #![tactic(auto)]
+
+ghost use Rattle.std.specs.Prelude.{◌≡◌};
+ghost use Rattle.limits.specs.Codes.{fault_code, refusal_code};
 
 // The kinds of plan; CLEAR_ALL may also speak of every kind.
 pub const FLIGHT: u8 = 0;
@@ -37,6 +40,50 @@ pub const INVALID_SEQUENCE: u8 = 13;
 pub const DENIED: u8 = 14;
 
 pub const CANCELLED: u8 = 15;
+
+// Why an ACK does not accept: the result that it says.
+#[derive(Clone, Copy, PartialEq, Eq)]
+pub enum Fault {
+    UnsupportedFrame = 2,
+    Unsupported = 3,
+    NoSpace = 4,
+    Invalid = 5,
+    InvalidParam1 = 6,
+    InvalidParam2 = 7,
+    InvalidX = 10,
+    InvalidY = 11,
+    InvalidZ = 12,
+    InvalidSequence = 13,
+    Denied = 14,
+    Cancelled = 15,
+}
+
+impl Fault {
+    pub fn code(self) -> u8
+        ensures { result ≡ fault_code self }
+    {
+        self as u8
+    }
+}
+
+// Why a call is refused: its outcome.
+#[derive(Clone, Copy, PartialEq, Eq)]
+pub enum Refusal {
+    ShortReply = 10,
+    EmptyPayload = 11,
+    NotRead = 12,
+    NotForUs = 13,
+    ShortStore = 14,
+    OutOfRange = 15,
+}
+
+impl Refusal {
+    pub fn code(self) -> u8
+        ensures { result ≡ refusal_code self }
+    {
+        self as u8
+    }
+}
 
 // Outcomes: no reply; a store that is too short; a state that has a number out of its range.
 pub const NO_REPLY: u8 = 1;

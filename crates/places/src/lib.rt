@@ -37,6 +37,7 @@ fn first_place_of(kind: u8) -> u16
 }
 
 // The item place of a number.
+#[tactic(auto, unfolding(crate::specs::Forms::place_of))]
 pub fn item_place(kind: u8, half: bool, n: u16) -> u32
     ensures { result ≡ place_of words half kind n }
 {
@@ -48,6 +49,7 @@ pub fn item_place(kind: u8, half: bool, n: u16) -> u32
 }
 
 // The store's word at which the item with a number begins.
+#[tactic(auto, unfolding(crate::specs::Forms::offset_of))]
 pub fn place_at(kind: u8, half: bool, n: u16) -> usize
     ensures { result ≡ offset_of words half kind n }
 {
@@ -59,11 +61,7 @@ pub fn put_item(store: &mut [u32], at: usize, item: [u32; ITEM_WORDS])
     requires { at + item_words ≤ length store.old }
     ensures { store.new ≡ put store.old at item }
 {
-    let mut i: usize = 0;
-    while i < ITEM_WORDS {
-        store[at + i] = item[i];
-        i += 1;
-    }
+    store[at..at + ITEM_WORDS].copy_from_slice(&item);
 }
 
 const LAST_WORD: usize = ITEM_WORDS - 1;
@@ -90,14 +88,10 @@ pub fn with_command(store: &[u32], kind: u8, half: bool, n: u16, command: u16) -
     ensures { result ≡ with_command command (items_in words store.now half kind n) }
 {
     let mut count: u16 = 0;
-    let mut at = place_at(kind, half, 0);
-    let mut i: u16 = 0;
-    while i < n {
-        if command_at(store, at) == command {
+    for i in 0..n {
+        if command_at(store, place_at(kind, half, i)) == command {
             count += 1;
         }
-        at += ITEM_WORDS;
-        i += 1;
     }
     count
 }

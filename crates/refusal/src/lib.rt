@@ -1,22 +1,15 @@
-// The refusals of each call, tested in their order: 14, 15, 10, 11, 12, 13. Outcome 0 here says that a call is not refused.
+// The refusals of each call, tested in their order: 14, 15, 10, 11, 12, 13.
 #![tactic(auto)]
 
 ghost use Rattle.std.specs.Prelude.{◌≡◌, ℕ, length};
 ghost use Rattle.rules.specs.Payload.{Bytes};
 ghost use Rattle.rules.specs.Messages.{Station, station};
 ghost use Rattle.rules.specs.Calls.{message, timer, done, heard, ours_or_all};
+ghost use Rattle.limits.specs.Codes.{outcome_code};
 ghost use Rattle.refusal.specs.Refusals.{refusal_of, room_refusal, HeadRead};
 
-use limits::{OUT_OF_RANGE, RALLY, REPLY_BYTES, SHORT_STORE, STORE_WORDS};
+use limits::{RALLY, REPLY_BYTES, Refusal, STORE_WORDS};
 use message_table::Head;
-
-const SHORT_REPLY: u8 = 10;
-
-const EMPTY_PAYLOAD: u8 = 11;
-
-const NOT_READ: u8 = 12;
-
-const NOT_FOR_US: u8 = 13;
 
 // A target number that is ours, or 0 for all.
 fn ours_or_all(own: u8, target: u8) -> bool
@@ -26,30 +19,27 @@ fn ours_or_all(own: u8, target: u8) -> bool
 }
 
 // To every call 14 and 15 apply, in this order; to "command done" calls nothing else.
-pub fn done_refusal(ranged: bool, store_len: usize) -> u8
-    ensures { result ≡ refusal_of (heard ranged (done store_len)) }
+pub fn done_refusal(ranged: bool, store_len: usize) -> Result<(), Refusal>
+    ensures { outcome_code result ≡ refusal_of (heard ranged (done store_len)) }
 {
     if store_len < STORE_WORDS {
-        return SHORT_STORE;
+        return Err(Refusal::ShortStore);
     }
     if !ranged {
-        return OUT_OF_RANGE;
+        return Err(Refusal::OutOfRange);
     }
-    0
+    Ok(())
 }
 
 // What message and timer calls are refused for first: 14, 15, 10.
-fn room_refusal(ranged: bool, store_len: usize, reply_len: usize) -> u8
-    ensures { result ≡ room_refusal ranged store_len reply_len }
+fn room_refusal(ranged: bool, store_len: usize, reply_len: usize) -> Result<(), Refusal>
+    ensures { outcome_code result ≡ room_refusal ranged store_len reply_len }
 {
-    let first = done_refusal(ranged, store_len);
-    if first != 0 {
-        return first;
-    }
+    done_refusal(ranged, store_len)?;
     if reply_len < REPLY_BYTES {
-        return SHORT_REPLY;
+        return Err(Refusal::ShortReply);
     }
-    0
+    Ok(())
 }
 
 // A message call with a payload of some bytes; whether its message is read here, and its head.
@@ -62,35 +52,34 @@ pub fn message_refusal(
     payload_len: usize,
     read: bool,
     head: Head,
-) -> u8
-    ensures { (from : Station) (id : ℕ) (p : Bytes) (clock : ℕ) → length p ≡ payload_len → HeadRead id p read head → result ≡ refusal_of (heard ranged (message (station own_system own_component) from id p clock store_len reply_len)) }
+) -> Result<(), Refusal>
+    ensures { (from : Station) (id : ℕ) (p : Bytes) (clock : ℕ) → length p ≡ payload_len → HeadRead id p read head → outcome_code result ≡ refusal_of (heard ranged (message (station own_system own_component) from id p clock store_len reply_len)) }
 {
-    let first = room_refusal(ranged, store_len, reply_len);
-    if first != 0 {
-        return first;
-    }
+    room_refusal(ranged, store_len, reply_len)?;
     if payload_len == 0 {
-        return EMPTY_PAYLOAD;
+        return Err(Refusal::EmptyPayload);
     }
     if !read {
-        return NOT_READ;
+        return Err(Refusal::NotRead);
     }
     if !(ours_or_all(own_system, head.system) & ours_or_all(own_component, head.component)) {
-        return NOT_FOR_US;
+        return Err(Refusal::NotForUs);
     }
-    0
+    Ok(())
 }
 
 // Timer calls skip 11 and 13.
-pub fn timer_refusal(ranged: bool, store_len: usize, reply_len: usize, kind: u8) -> u8
-    ensures { (clock : ℕ) → result ≡ refusal_of (heard ranged (timer kind clock store_len reply_len)) }
+pub fn timer_refusal(
+    ranged: bool,
+    store_len: usize,
+    reply_len: usize,
+    kind: u8,
+) -> Result<(), Refusal>
+    ensures { (clock : ℕ) → outcome_code result ≡ refusal_of (heard ranged (timer kind clock store_len reply_len)) }
 {
-    let first = room_refusal(ranged, store_len, reply_len);
-    if first != 0 {
-        return first;
-    }
+    room_refusal(ranged, store_len, reply_len)?;
     if RALLY < kind {
-        return NOT_READ;
+        return Err(Refusal::NotRead);
     }
-    0
+    Ok(())
 }

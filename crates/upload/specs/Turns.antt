@@ -1,13 +1,12 @@
 -- What each message and timer call makes of one kind's plan, over the state's own records; of the store in every form.
-use Rattle.std.specs.Prelude.{ℕ, ◌+◌, Bool, false, cond, not, ◌&&◌, drop, ◌==◌, nat_lt}
-use Rattle.rules.specs.Limits.{max_repeats, expiry_ms, accepted, no_space, invalid_sequence, denied, cancelled}
+use Rattle.std.specs.Prelude.{ℕ, ◌+◌, Bool, false, cond, not, ◌&&◌, drop, ◌==◌, nat_lt, Option, Some, None, Ok, Err}
+use Rattle.rules.specs.Limits.{max_repeats, expiry_ms, accepted}
 use Rattle.rules.specs.Messages.{Station, station, same_station, Item}
 use Rattle.rules.specs.Model.{Task, whole_task, part_task, next_number, elapsed, verdict_on, whole_fault}
 use Rattle.rules.specs.Step.{part_ok}
 use Rattle.plan.specs.declared.Plan.{Plan}
 use Rattle.plan.specs.declared.Run.{Run}
-use Rattle.plan.specs.declared.Upload.{Upload}
-use Rattle.plan.specs.declared.Upload.TheVariants.{Idle, Running}
+use Rattle.limits.specs.declared.Fault.TheVariants.{NoSpace, InvalidSequence, Denied, Cancelled}
 use Rattle.places.specs.Forms.{Store, Form, items_in}
 use Rattle.places.specs.Writes.{put_at}
 use Rattle.places.specs.Carried.{filled}
@@ -16,49 +15,50 @@ use Rattle.upload.specs.declared.Say.{Say}
 use Rattle.upload.specs.declared.Say.TheVariants.{Silent, Ack, Ask}
 use Rattle.upload.specs.declared.Effect.TheVariants.{Nothing, Turns, Renews, Changes}
 use Rattle.upload.specs.declared.Turned.{Turned}
+use Rattle.upload.specs.Faults.{fault_named}
 
 -- ---- one definition for each update of a plan
 
-abbrev pub with_upload : Plan → Upload → Plan
+abbrev pub with_upload : Plan → Option Run → Plan
 with_upload p u = record { len = p.len; half = p.half; number = p.number; upload = u }
 
 abbrev pub ended : Plan → Plan
-ended p = with_upload p Idle
+ended p = with_upload p None
 
 abbrev pub emptied : Plan → Plan
-emptied p = record { len = 0; half = p.half; number = p.number; upload = Idle }
+emptied p = record { len = 0; half = p.half; number = p.number; upload = None }
 
 -- the items taken become the plan: the other half, the next number
 abbrev pub replaced : Plan → ℕ → Plan
-replaced p n = record { len = n; half = not p.half; number = next_number p.number; upload = Idle }
+replaced p n = record { len = n; half = not p.half; number = next_number p.number; upload = None }
 
 abbrev pub run_of : (system component : ℕ) → Task → (next now repeats : ℕ) → Run
 run_of system component t next now repeats =
-    record { system = system; component = component; count = t.count; partial = t.partial; first = t.first; last = t.last; next = next; started = now; repeats = repeats }
+    record { from = record { system = system; component = component }; count = t.count; partial = t.partial; first = t.first; last = t.last; next = next; started = now; repeats = repeats }
 
 abbrev pub started : Station → (now : ℕ) → Task → Run
 started from now t = run_of from.system from.component t t.first now 0
 
 abbrev pub one_more : Run → (now : ℕ) → Run
-one_more r now = run_of r.system r.component (task_in r) (r.next + 1) now 0
+one_more r now = run_of r.from.system r.from.component (task_in r) (r.next + 1) now 0
 
 abbrev pub asked_again : Run → (now : ℕ) → Run
-asked_again r now = run_of r.system r.component (task_in r) r.next now (r.repeats + 1)
+asked_again r now = run_of r.from.system r.from.component (task_in r) r.next now (r.repeats + 1)
 
 -- ---- whose an upload is
 
-unfoldable pub others_upload : Station → Upload → Bool
-others_upload from Idle = false
-others_upload from (Running r) = not (same_station from (station_in r))
+unfoldable pub others_upload : Station → Option Run → Bool
+others_upload from None = false
+others_upload from (Some r) = not (same_station from (station_in r))
 
-unfoldable pub own_upload : Station → Upload → Bool
-own_upload from Idle = false
-own_upload from (Running r) = same_station from (station_in r)
+unfoldable pub own_upload : Station → Option Run → Bool
+own_upload from None = false
+own_upload from (Some r) = same_station from (station_in r)
 
 -- a timer call's reply goes to the upload's station
-abbrev pub station_of : Upload → Station
-station_of Idle = station 0 0
-station_of (Running r) = station_in r
+abbrev pub station_of : Option Run → Station
+station_of None = station 0 0
+station_of (Some r) = station_in r
 
 -- ---- the handlers
 
@@ -77,30 +77,30 @@ puts_in partial p say = record { effect = cond partial (Changes p) (Renews p); s
 
 -- an upload starts, and its first item is asked for
 abbrev pub opens : Plan → Station → (now : ℕ) → Task → Turned
-opens p from now t = moves (with_upload p (Running (started from now t))) (Ask t.first)
+opens p from now t = moves (with_upload p (Some (started from now t))) (Ask t.first)
 
 unfoldable pub count_turned : Plan → Station → (now n size : ℕ) → Turned
 count_turned p from now n size =
-    cond (others_upload from p.upload) (keeps (Ack denied 0))
-    (cond (nat_lt size n) (moves (ended p) (Ack no_space 0))
-    (cond (n == 0) (renews (emptied p) (Ack accepted 0))
+    cond (others_upload from p.upload) (keeps (Ack (Err Denied)))
+    (cond (nat_lt size n) (moves (ended p) (Ack (Err NoSpace)))
+    (cond (n == 0) (renews (emptied p) (Ack (Ok 0)))
     (opens p from now (whole_task n))))
 
 unfoldable pub part_turned : Plan → Station → (now start end : ℕ) → Turned
 part_turned p from now start end =
-    cond (others_upload from p.upload) (keeps (Ack denied 0))
-    (cond (not (part_ok p.len start end)) (moves (ended p) (Ack invalid_sequence 0))
+    cond (others_upload from p.upload) (keeps (Ack (Err Denied)))
+    (cond (not (part_ok p.len start end)) (moves (ended p) (Ack (Err InvalidSequence)))
     (opens p from now (part_task p.len start end)))
 
 unfoldable pub ack_turned : Plan → Station → (result : ℕ) → Turned
 ack_turned p from result = cond (own_upload from p.upload && not (result == accepted)) (moves (ended p) Silent) (keeps Silent)
 
-unfoldable pub timer_turned : Upload → Plan → (now : ℕ) → Turned
-timer_turned Idle p now = keeps Silent
-timer_turned (Running r) p now =
+unfoldable pub timer_turned : Option Run → Plan → (now : ℕ) → Turned
+timer_turned None p now = keeps Silent
+timer_turned (Some r) p now =
     cond (nat_lt (elapsed now r.started) expiry_ms) (keeps Silent)
-    (cond (nat_lt r.repeats max_repeats) (moves (with_upload p (Running (asked_again r now))) (Ask r.next))
-    (moves (ended p) (Ack cancelled 0)))
+    (cond (nat_lt r.repeats max_repeats) (moves (with_upload p (Some (asked_again r now))) (Ask r.next))
+    (moves (ended p) (Ack (Err Cancelled))))
 
 -- ---- an item: the plan and the store after it
 
@@ -124,20 +124,20 @@ module _ (F : Form) where
   unfoldable pub last_turned : Store → (kind : ℕ) → Plan → Run → Turned
   last_turned s kind p r =
       let result = whole_fault kind (task_in r) (items_in F s (not p.half) kind r.count) in
-      cond (result == accepted) (puts_in r.partial (replaced p r.count) (Ack accepted (next_number p.number))) (moves (ended p) (Ack result 0))
+      cond (result == accepted) (puts_in r.partial (replaced p r.count) (Ack (Ok (next_number p.number)))) (moves (ended p) (Ack (Err (fault_named result))))
 
   unfoldable pub valid_item_turned : Store → (kind : ℕ) → Plan → Run → (now : ℕ) → TurnAndStore
   valid_item_turned s kind p r now =
-      cond (not (r.next == r.last)) (turn_with (moves (with_upload p (Running (one_more r now))) (Ask (r.next + 1))) s)
+      cond (not (r.next == r.last)) (turn_with (moves (with_upload p (Some (one_more r now))) (Ask (r.next + 1))) s)
       (turn_with (last_turned (settled s kind p r) kind p r) (settled s kind p r))
 
   abbrev pub item_verdict : (home : Bool) → Store → (kind : ℕ) → Plan → Run → Item → ℕ
   item_verdict home s kind p r item = verdict_on home kind (task_in r) r.next (drop r.first (items_in F s (not p.half) kind r.next)) item
 
-  unfoldable pub item_turned : (home : Bool) → Store → (kind : ℕ) → Upload → Plan → Station → (now : ℕ) → Item → TurnAndStore
-  item_turned home s kind Idle p from now item = turn_with (keeps (Ack invalid_sequence 0)) s
-  item_turned home s kind (Running r) p from now item =
-      cond (not (same_station from (station_in r))) (turn_with (keeps (Ack denied 0)) s)
+  unfoldable pub item_turned : (home : Bool) → Store → (kind : ℕ) → Option Run → Plan → Station → (now : ℕ) → Item → TurnAndStore
+  item_turned home s kind None p from now item = turn_with (keeps (Ack (Err InvalidSequence))) s
+  item_turned home s kind (Some r) p from now item =
+      cond (not (same_station from (station_in r))) (turn_with (keeps (Ack (Err Denied))) s)
       (cond (not (item.seq == r.next)) (turn_with (keeps (Ask r.next)) s)
-      (cond (not (item_verdict home s kind p r item == accepted)) (turn_with (moves (ended p) (Ack (item_verdict home s kind p r item) 0)) s)
+      (cond (not (item_verdict home s kind p r item == accepted)) (turn_with (moves (ended p) (Ack (Err (fault_named (item_verdict home s kind p r item))))) s)
       (valid_item_turned (stored s kind p r item) kind p r now)))

@@ -1,6 +1,7 @@
 // The steps of one kind's upload, what they do to the state, and what is said back. Everything here speaks of one plan at a time; its kind does not matter.
 #![tactic(auto)]
 
+use limits::Fault;
 use plan::Plan;
 
 mod counters;
@@ -8,11 +9,11 @@ pub mod turns;
 pub mod updates;
 pub mod uploads;
 
-// What a handler says to a station about its kind: nothing, an ACK with result and plan number, or a request of an item.
+// What a handler says to a station about its kind: nothing, an ACK that accepts with a plan number or says a fault, or a request of an item.
 #[derive(Clone, Copy)]
 pub enum Say {
     Silent,
-    Ack(u8, u32),
+    Ack(Result<u32, Fault>),
     Ask(u16),
 }
 

@@ -4,25 +4,20 @@ ghost use Rattle.upload.specs.Turns.{with_upload, ended, emptied, replaced, keep
 
 use super::counters::next_number;
 use super::{Effect, Say, Turned};
-use plan::{Plan, Upload};
+use plan::{Plan, Run};
 
 // The plan with another upload.
-pub fn with_upload(plan: Plan, upload: Upload) -> Plan
+pub fn with_upload(plan: Plan, upload: Option<Run>) -> Plan
     ensures { result ≡ with_upload plan upload }
 {
-    Plan {
-        len: plan.len,
-        half: plan.half,
-        number: plan.number,
-        upload,
-    }
+    Plan { upload, ..plan }
 }
 
 // The plan without an upload.
 pub fn ended(plan: Plan) -> Plan
     ensures { result ≡ ended plan }
 {
-    with_upload(plan, Upload::Idle)
+    with_upload(plan, None)
 }
 
 // The plan without items and without an upload; its half and its number stay.
@@ -31,9 +26,8 @@ pub fn emptied(plan: Plan) -> Plan
 {
     Plan {
         len: 0,
-        half: plan.half,
-        number: plan.number,
-        upload: Upload::Idle,
+        upload: None,
+        ..plan
     }
 }
 
@@ -45,7 +39,7 @@ pub fn replaced(plan: Plan, len: u16) -> Plan
         len,
         half: !plan.half,
         number: next_number(plan.number),
-        upload: Upload::Idle,
+        upload: None,
     }
 }
 

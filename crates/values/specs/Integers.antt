@@ -1,5 +1,5 @@
 -- The tests on i32 numbers, by cases on the sign, and what follows of a float from the code's reading of it as a whole number.
-use Rattle.std.specs.Prelude.{◌≡◌, ℕ, suc, ◌<◌, Bool, true, false, cond, not, ◌&&◌, ◌||◌, T, ℤ, pos, negsuc, FitsSigned, ◌==◌, int_le, int_lt, nat_le, nat_lt, unsigned_abs}
+use Rattle.std.specs.Prelude.{◌≡◌, ℕ, suc, ◌<◌, Bool, true, false, cond, not, ◌&&◌, ◌||◌, T, ℤ, pos, negsuc, FitsSigned, ◌==◌, int_le, int_lt, nat_le, nat_lt, unsigned_abs, Result, Ok}
 use Rattle.std.proofs.Common.{zero-le, sym, ap, ◌∙◌, subst, arith, le-ltb, le-leb, ltb-true, ltb-false}
 use Rattle.std.proofs.Math.Path.{refl}
 use Rattle.std.proofs.Math.Bool.{or-false}
@@ -13,8 +13,7 @@ use Rattle.rules.specs.Limits.{half_clock}
 use Rattle.rules.specs.Values as rules
 use Rattle.rules.specs.Values.{whole_from, whole_number, within, integer}
 use Rattle.rules.specs.Items.{target_in}
-use Rattle.values.specs.declared.Whole.{Whole}
-use Rattle.values.specs.declared.Whole.TheVariants.{Integer}
+use Rattle.values.specs.declared.NotWhole.{NotWhole}
 use Rattle.values.specs.Wholes.{meant, read_as}
 
 -- an i32, as it is read back from its bits
@@ -43,7 +42,7 @@ within_limit k x v t f e h =
 
 -- ---- the reading is an integer
 
-module _ (w : rules.Whole) (n : ℤ) (r : Whole) (is : r ≡ Integer n) (reads : meant r ≡ w) (f : FitsSigned w32 n) where
+module _ (w : rules.Whole) (n : ℤ) (r : Result ℤ NotWhole) (is : r ≡ Ok n) (reads : meant r ≡ w) (f : FitsSigned w32 n) where
   whole_is : w ≡ integer n
   whole_is = sym (read_as reads is)
 

@@ -22,36 +22,30 @@ pub fn float_of(bits: u32) -> f32
 pub fn signed_of(bits: u32) -> i32
     ensures { result ≡ signed bits }
 {
-    if bits < 0x8000_0000 {
-        return bits as i32;
-    }
-    -1 - ((0xffff_ffff - bits) as i32)
+    bits.cast_signed()
 }
 
-// An exact reading: a whole number of 32 signed bits, no value (NaN), or neither.
-#[derive(Clone, Copy)]
-pub enum Whole {
-    Integer(i32),
+// Why a float is no whole number of 32 signed bits: it is no value (NaN), or another that is none, as one with a fraction.
+#[derive(Clone, Copy, PartialEq, Eq)]
+pub enum NotWhole {
     NoValue,
-    NotWhole,
+    Fraction,
 }
 
-// Each i32 is a value of f64, so the comparison there decides whether anything was cut off.
-pub fn whole_of(x: f32) -> Whole
+// An exact reading. Each i32 is a value of f64, so the comparison there decides whether anything was cut off.
+pub fn whole_of(x: f32) -> Result<i32, NotWhole>
     ensures { meant result ≡ whole_of x }
 {
     if is_nan(x) {
-        return Whole::NoValue;
+        return Err(NotWhole::NoValue);
     }
-    if x >= -2147483648.0 {
-        if x < 2147483648.0 {
-            let n = std::num::truncating_f32_to_i64(x) as i32;
-            if n as f64 == std::num::f32_to_f64_with_nan(x) {
-                return Whole::Integer(n);
-            }
+    if x >= -2147483648.0 && x < 2147483648.0 {
+        let n = std::num::truncating_f32_to_i64(x) as i32;
+        if n as f64 == std::num::f32_to_f64_with_nan(x) {
+            return Ok(n);
         }
     }
-    Whole::NotWhole
+    Err(NotWhole::Fraction)
 }
 
 // The whole number that a float is, where it is one that is at least 0; otherwise 0.
@@ -59,8 +53,7 @@ pub fn number_of(x: f32) -> u32
     ensures { result ≡ whole_number (whole_of x) }
 {
     match whole_of(x) {
-        Whole::Integer(n) => { if n < 0 { 0 } else { n as u32 } }
-        Whole::NoValue => 0,
-        Whole::NotWhole => 0,
+        Ok(n) => n.max(0) as u32,
+        Err(_) => 0,
     }
 }

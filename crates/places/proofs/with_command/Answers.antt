@@ -1,18 +1,10 @@
--- The loop's invariant: the count is that of the items passed, and `at` the place of the next. One more item adds one exactly if it has the command.
-use mathlib.Core.Path.{◌≡◌, refl, ◌∙◌, ap}
-use mathlib.Core.Logic.{⊎_elim}
-use mathlib.Core.Bool.{Bool, cond}
-use Prim.Native.Nat.{ℕ, suc, ◌+◌, ◌-◌}
-use native.Mathlib.Omega.{arith}
-use native.Mathlib.Numerals.{add-one}
-use borrow.Author.Tests.{eq-eqb, ne_eqb}
-use lib.Dec.{eqb}
-use lib.ListN.{get_or}
+-- The count is that of the items passed: one more item adds one exactly if it has the command.
+use Rattle.std.proofs.Common.{◌≡◌, refl, ◌∙◌, ap, ℕ, suc, ◌+◌, Bool, cond, get_or, eqb, arith, add-one, eq-eqb, ne_eqb}
 use Rattle.rules.specs.Limits.{item_words}
 use Rattle.rules.specs.Words.{last_word, command_in}
 use Rattle.places.specs.Part.{part, get_d_part}
 use Rattle.places.specs.Forms.{Store, words, item_at, items_in, offset_of}
-use Rattle.places.specs.Places.{offset_next, offset_within}
+use Rattle.places.specs.Places.{offset_within}
 use Rattle.places.proofs.Lawful.{words_lawful}
 use Rattle.places.specs.Stored.{with_command, command_is, with_more}
 use Rattle.places.proofs.with_command.Goals as goal
@@ -32,37 +24,22 @@ counted store half kind command i count at found before place read =
 
 pub loop-i-init : goal.loop-i-init
 unfolding items_in with_command
-loop-i-init c = (omega arith, omega arith, c.place_at-at.ensures, refl)
+loop-i-init c = (omega arith, refl)
 
 pub command_at-requires : goal.command_at-requires
 command_at-requires c = let a = c.args in
     omega (arith, offset_within words words_lawful a.half a.kind c.loop-i.i (omega arith) (omega arith))
-
-pub overflow_add-at : goal.overflow_add-at
-overflow_add-at c =
-    let a = c.args in
-    record { fits = omega (arith, offset_within words words_lawful a.half a.kind c.loop-i.i (omega arith) (omega arith)) }
-
-pub loop-i-smaller : goal.loop-i-smaller
-loop-i-smaller c = omega arith
 
 pub loop-i-preserved : goal.loop-i-preserved
 loop-i-preserved c = let a = c.args in
     let l = c.loop-i in
     let found = c.command_at.result in
     let turn =
-    counted a.store.now a.half a.kind a.command l.i l.count l.at found
-    l.invariant.3 l.invariant.2 c.command_at.ensures in (
-      omega arith,
+    counted a.store.now a.half a.kind a.command l.i l.count c.place_at.result found
+    l.invariant.1 c.place_at.ensures c.command_at.ensures in (
       elim c.if-command_at-command.branch [ then-command_at-command w ↦ omega arith | else-command_at-command w ↦ omega arith ],
-      omega (arith, offset_next words a.half a.kind l.i),
       elim c.if-command_at-command.branch [
         | then-command_at-command w ↦ w.count-is ∙ add-one l.count ∙ (rw (eq-eqb found a.command w.if-command_at-command.true) at turn)
         | else-command_at-command w ↦ w.count-is ∙ (rw (ne_eqb found a.command w.if-command_at-command.false) at turn)
       ],
     )
-
-pub returns : goal.returns
-returns c = let a = c.args in
-    let l = c.loop-i in
-    l.invariant.3 ∙ ap (λ (k : ℕ). with_command a.command (items_in words a.store.now a.half a.kind k)) (omega arith)

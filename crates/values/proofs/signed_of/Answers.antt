@@ -1,25 +1,13 @@
--- Below the half, the number itself; from there on, minus 1 less the distance to the last pattern. Each i32 is read back from its bits.
-use Rattle.std.proofs.Common.{◌≡◌, ℕ, zero, suc, ◌+◌, ◌-◌, ◌≤◌, pos, negsuc, ◌+ℤ◌, ◌-ℤ◌, neg_ℤ, refl, ap, ◌∙◌, zero-add, arith, w32, to_z, le-ltb, lt-ltb}
-use mir.ValLaws.{to_z-of_z, to_z_pos}
-use borrow.Author.Rules.{sfits_of}
+-- An i32 is its pattern, read as the rules read it.
+use Rattle.std.proofs.Common.{◌≡◌, ℕ, suc, ◌-◌, ◌^◌, cond, ltb, ℤ, pos, negsuc, ap, ◌∙◌, arith, w32, to_z, of_z}
+use Rattle.std.proofs.lemmas.Int.{of_z-to_z}
 use Rattle.rules.specs.Values.{signed}
 use Rattle.values.proofs.signed_of.Goals as goal
 
-minus_one : (k : ℕ) → negsuc 0 +ℤ neg_ℤ (pos k) ≡ negsuc k
-minus_one zero = refl
-minus_one (suc k) = ap (λ (n : ℕ). negsuc (suc n)) (zero-add k)
-
--- from the half on
-upper : (bits : ℕ) → 2147483648 ≤ bits → negsuc 0 -ℤ to_z w32 (4294967295 - bits) ≡ negsuc (4294967295 - bits)
-upper bits h = rw (to_z_pos w32 (4294967295 - bits) (omega arith)) (minus_one (4294967295 - bits))
-
-pub returns-then-bits-lt2147483648 : goal.returns-then-bits-lt2147483648
+read_is : (n : ℕ) → to_z w32 n ≡ signed n
 unfolding signed
-returns-then-bits-lt2147483648 c = rw (lt-ltb c.args.bits 2147483648 c.if-bits-lt2147483648.true)
+read_is n = let e : 2 ^ 32 - suc n ≡ 4294967295 - n = omega arith in ap (λ (k : ℕ). cond (ltb n (2 ^ 31)) (pos n) (negsuc k)) e
 
 pub returns : goal.returns
-unfolding signed
-returns c = let bits = c.args.bits in
-    to_z-of_z w32 (negsuc 0 -ℤ to_z w32 (4294967295 - bits)) (rw (upper bits c.if-bits-lt2147483648.false) (sfits_of (omega arith)))
-    ∙ upper bits c.if-bits-lt2147483648.false
-    ∙ rw (le-ltb bits 2147483648 c.if-bits-lt2147483648.false)
+returns c = let n = c.args.bits in
+    ap (λ (z : ℤ). to_z w32 (of_z w32 z)) c.cast_signed.ensures ∙ ap (to_z w32) (of_z-to_z w32 n (omega arith)) ∙ read_is n

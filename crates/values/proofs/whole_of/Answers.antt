@@ -9,6 +9,7 @@ use Rattle.rules.specs.Values.{integer, not_whole, whole_of}
 use Rattle.rule_laws.specs.Wholes.{nan_means, no_value_means}
 use Rattle.values.proofs.Reading.{lowest, bound, reading, cut_fits, cut_defined, too_large, too_small}
 use Rattle.values.proofs.whole_of.Goals as goal
+use Rattle.values.proofs.whole_of.Goals.{else-x-via-then-x+else-x-2, else-x-via-else-x}
 
 -- an i64 that is cast to an i32, as it is read back from its bits
 abbrev recast : ℤ → ℤ
@@ -58,10 +59,11 @@ unfolding of_bits neg
 returns-else-n-f32_to_f64_with_nan c = judged c.args.x c.truncating_f32_to_i64-n.result c.if-x.true c.if-x-2.true
     c.truncating_f32_to_i64-n.ensures c.f32_to_f64_with_nan.result false c.f32_to_f64_with_nan.ensures c.if-n-f32_to_f64_with_nan.false
 
-pub returns-else-x-2 : goal.returns-else-x-2
-unfolding of_bits neg
-returns-else-x-2 c = too_large c.args.x (sym c.is_nan.ensures ∙ c.if-is_nan.false) c.if-x-2.false
-
 pub returns-else-x : goal.returns-else-x
 unfolding of_bits neg
-returns-else-x c = too_small c.args.x (sym c.is_nan.ensures ∙ c.if-is_nan.false) c.if-x.false
+returns-else-x c =
+    let some = sym c.is_nan.ensures ∙ c.if-is_nan.false in
+    elim c.else-x.branch [
+      | else-x-via-then-x+else-x-2 w ↦ too_large c.args.x some w.if-x-2.false
+      | else-x-via-else-x w ↦ too_small c.args.x some w.if-x.false
+    ]

@@ -1,0 +1,2 @@
+-- What the contracts of the limits cite beside the rules.
+pub mod Codes
