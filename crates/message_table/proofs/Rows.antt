@@ -4,7 +4,7 @@ use mathlib.Core.Path.{◌≡◌, refl, ap, sym, subst, ◌∙◌}
 use mathlib.Core.List.{List, [], ◌∷◌}
 use mathlib.Core.Bool.{Bool, true, false, ◌&&◌}
 use native.Mathlib.Omega.{arith}
-use lib.Dec.{T, eqb, leb, leb→le, lit<, lit≤}
+use lib.Dec.{T, eqb, leb, leb→le, lit≤}
 use lib.ListN.{get_or}
 use lib.Seq.{get_or-take}
 use borrow.Author.Tests.{eqb-true, eqb-false, ne_eqb}
@@ -74,12 +74,6 @@ by_row P p38 p41 p42 p43 p44 p45 p47 p51 p73 p253 none id =
 
 -- ---- the row of an id
 
-abbrev pub read : (full target : ℕ) → Option ℕ → Option Row
-read full target kind = Some (record { full = full; head = Some (record { target = target; kind = kind }) })
-
-abbrev pub only_written : ℕ → Option Row
-only_written full = Some (record { full = full; head = None })
-
 pub found : {id n : ℕ} {row known : Option Row} → id ≡ n → row ≡ known → IsRowOf n known → IsRowOf id row
 found {id} {n} {row} {known} e is of = subst (λ (k : ℕ). IsRowOf k row) (sym e) (subst (λ (r : Option Row). IsRowOf n r) (sym is) of)
 
@@ -88,59 +82,19 @@ missed id n38 n41 n42 n43 n44 n45 n47 n51 n73 n253 =
     let no : NoRow id = outside id n38 n41 n42 n43 n44 n45 n47 n51 n73 n253 in
     record { full = sym no.full; read = λ p. ap is_read (sym (no.message p)); head = tt; within = tt }
 
-heads : (target kind : ℕ) (b : Bytes)
+pub heads : (target kind : ℕ) (b : Bytes)
     → head_in b (record { target = target; kind = Some kind })
     ≡ record { system = number_at 1 target b; component = number_at 1 (target + 1) b; kind = number_at 1 kind b }
 heads target kind b =
     λ i. record { system = sym (number_one target b) i; component = sym (number_one (target + 1) b) i; kind = sym (number_one kind b) i }
 
-heads_no_kind : (target : ℕ) (b : Bytes)
+pub heads_no_kind : (target : ℕ) (b : Bytes)
     → head_in b (record { target = target; kind = None })
     ≡ record { system = number_at 1 target b; component = number_at 1 (target + 1) b; kind = flight }
 heads_no_kind target b = λ i. record { system = sym (number_one target b) i; component = sym (number_one (target + 1) b) i; kind = flight }
 
 not_read_lem : {A : Type 0} → false ≡ true → A
 not_read_lem e = absurd (subst T (sym e) tt)
-
-pub of_38 : IsRowOf 38 (read 7 4 (Some 6))
-unfolding layout_of decode message_of values
-of_38 = record { full = refl; read = λ p. refl; head = heads 4 6; within = record { target = lit< tt; kind = lit< tt } }
-
-pub of_41 : IsRowOf 41 (read 4 2 (None))
-unfolding layout_of decode message_of values
-of_41 = record { full = refl; read = λ p. refl; head = heads_no_kind 2; within = record { target = lit< tt; kind = tt } }
-
-pub of_43 : IsRowOf 43 (read 3 0 (Some 2))
-unfolding layout_of decode message_of values
-of_43 = record { full = refl; read = λ p. refl; head = heads 0 2; within = record { target = lit< tt; kind = lit< tt } }
-
-pub of_44 : IsRowOf 44 (read 9 2 (Some 4))
-unfolding layout_of decode message_of values
-of_44 = record { full = refl; read = λ p. refl; head = heads 2 4; within = record { target = lit< tt; kind = lit< tt } }
-
-pub of_45 : IsRowOf 45 (read 3 0 (Some 2))
-unfolding layout_of decode message_of values
-of_45 = record { full = refl; read = λ p. refl; head = heads 0 2; within = record { target = lit< tt; kind = lit< tt } }
-
-pub of_47 : IsRowOf 47 (read 8 0 (Some 3))
-unfolding layout_of decode message_of values
-of_47 = record { full = refl; read = λ p. refl; head = heads 0 3; within = record { target = lit< tt; kind = lit< tt } }
-
-pub of_51 : IsRowOf 51 (read 5 2 (Some 4))
-unfolding layout_of decode message_of values
-of_51 = record { full = refl; read = λ p. refl; head = heads 2 4; within = record { target = lit< tt; kind = lit< tt } }
-
-pub of_73 : IsRowOf 73 (read 38 32 (Some 37))
-unfolding layout_of decode message_of values
-of_73 = record { full = refl; read = λ p. refl; head = heads 32 37; within = record { target = lit< tt; kind = lit< tt } }
-
-pub of_42 : IsRowOf 42 (only_written 18)
-unfolding layout_of decode message_of values
-of_42 = record { full = refl; read = λ p. refl; head = tt; within = tt }
-
-pub of_253 : IsRowOf 253 (only_written 54)
-unfolding layout_of decode message_of values
-of_253 = record { full = refl; read = λ p. refl; head = tt; within = tt }
 
 -- ---- a message has all its fields within its full length
 
