@@ -7,7 +7,7 @@ mod parts;
 ghost use Rattle.std.specs.Prelude.{[], ◌∷◌};
 ghost use Rattle.adding.specs.Added.{Adds};
 
-pub use parts::{first, part, part_words, within, within_words};
+pub use parts::{first, part, within};
 
 pub fn put_byte(out: &mut [u8], at: usize, byte: u8) -> usize
     ensures { Adds (byte ∷ []) out.old at out.new result }

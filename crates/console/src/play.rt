@@ -18,7 +18,7 @@ fn front(bytes: &mut [u8], n: usize) -> &mut [u8] {
 }
 
 fn front_words(words: &mut [u32], n: usize) -> &mut [u32] {
-    let end = text::within_words(n, words);
+    let end = text::within(n, words);
     &mut words[..end]
 }
 
@@ -73,7 +73,7 @@ pub fn timer(
     let reply_end = text::within(r.reply, lent);
     let served = service::timer(
         state,
-        text::part_words(store, 0, r.store),
+        text::part(store, 0, r.store),
         &mut lent[..reply_end],
         r.b4,
         r.clock,
@@ -84,7 +84,7 @@ pub fn timer(
 }
 
 fn done(r: Record, out: &mut [u8], at: usize, store: &[u32], state: State) -> Played {
-    let advanced = service::advance(state, text::part_words(store, 0, r.store));
+    let advanced = service::advance(state, text::part(store, 0, r.store));
     let command = advanced.command;
     let at = lines::put_done(out, at, advanced.outcome, command);
     let state = advanced.state;

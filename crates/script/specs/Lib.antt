@@ -1,2 +1,3 @@
 -- The form of call scripts.
+pub mod Kinds
 pub mod Records

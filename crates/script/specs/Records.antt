@@ -1,12 +1,18 @@
 -- Records of a call script, and when one can be played. "A script is a row of records. Each record is a header of exactly 24 bytes and then
 -- `len` payload bytes. All numbers are little-endian and unsigned."
-use Rattle.std.specs.Prelude.{ℕ, ◌+◌, ◌*◌, ◌/◌, ◌%◌, Bool, not, ◌&&◌, ◌||◌, cond, eqb, ltb, leb, length, get_or}
+use Rattle.std.specs.Prelude.{ℕ, ◌+◌, ◌*◌, ◌/◌, ◌%◌, Bool, true, false, not, ◌&&◌, ◌||◌, cond, eqb, ltb, leb, length, get_or, Option, Some, None, Result, Ok, Err}
 use Rattle.rules.specs.Limits.{rally, size_of, max_jumps, item_words}
 use Rattle.rules.specs.Payload.{Bytes, number_at}
 use Rattle.writing.specs.Written.{word_bytes}
 use Rattle.script.specs.declared.Record.{Record}
-use Rattle.script.specs.declared.Next.{Next}
-use Rattle.script.specs.declared.Next.TheVariants.{Play, End, Cut, Bad}
+use Rattle.script.specs.Kinds.{kind_of, target_of}
+use Rattle.script.specs.declared.kinds.Kind.{Kind}
+use Rattle.script.specs.declared.kinds.Kind.TheVariants.{End, Message, Timer, Done, Dump, Fresh, Snap, Compare, Poke, Write, Move}
+use Rattle.script.specs.declared.kinds.Stop.{Stop}
+use Rattle.script.specs.declared.kinds.Stop.TheVariants.{Cut, Bad}
+use Rattle.script.specs.declared.kinds.Target.{Target}
+use Rattle.script.specs.declared.kinds.Target.TheVariants.{Words, Plan, OtherHalf, Old}
+use Rattle.script.specs.declared.kinds.UnknownTarget.{UnknownTarget}
 
 abbrev pub header_bytes : ℕ
 header_bytes = 24
@@ -28,10 +34,10 @@ reply_array = 64
 abbrev pub stored_bytes : ℕ
 stored_bytes = item_words * word_bytes
 
-unfoldable pub record_in : Bytes → Record
-record_in p =
+unfoldable pub record_in : Kind → Bytes → Record
+record_in kind p =
     record {
-      kind = get_or p 0 0;
+      kind = kind;
       b0 = get_or p 1 0;
       b1 = get_or p 2 0;
       b2 = get_or p 3 0;
@@ -62,30 +68,47 @@ items_fit kind at len = leb kind rally && eqb (len % stored_bytes) 0 && leb (at 
 unfoldable pub bytes_fit : (at len : ℕ) → Bool
 bytes_fit at len = leb (at + len) old_array
 
+abbrev pub target_fits : Result Target UnknownTarget → (kind at len : ℕ) → Bool
+target_fits (Ok Words) kind at len = words_fit at len
+target_fits (Ok Plan) kind at len = items_fit kind at len
+target_fits (Ok OtherHalf) kind at len = items_fit kind at len
+target_fits (Ok Old) kind at len = bytes_fit at len
+target_fits (Err e) kind at len = false
+
 unfoldable pub write_fits : (to kind at len : ℕ) → Bool
-write_fits to kind at len = eqb to 0 && words_fit at len || (eqb to 1 || eqb to 2) && items_fit kind at len || eqb to 3 && bytes_fit at len
+write_fits to kind at len = target_fits (target_of to) kind at len
 
--- MESSAGE 1, TIMER 2, DONE 3, DUMP 4; FRESH 5 with or without the setting, (M-109) "bit 0 of b4"; SNAP 6 and CMP 7 of the store array, "with b4 = 1" of B; POKE 8; WRITE 9; MOVE 18,
--- "a above 26,880: `? 18`". "len above 300, store above [5,664], reply above 64 .. the program stops"
+-- FRESH with or without the setting, (M-109) "bit 0 of b4"; SNAP and CMP of the store array, "with b4 = 1" of B; MOVE, "a above 26,880: `? 18`"
+abbrev pub known : Kind → Record → Bool
+known End r = true
+known Message r = true
+known Timer r = true
+known Done r = true
+known Dump r = true
+known Fresh r = leb r.b4 1
+known Snap r = leb r.b4 1
+known Compare r = leb r.b4 1
+known Poke r = poke_fits r.b4 r.b0
+known Write r = write_fits r.b4 r.b0 r.a r.len
+known Move r = leb r.a old_array
+
+-- "len above 300, store above [5,664], reply above 64 .. the program stops"
 unfoldable pub fits : Record → Bool
-fits r =
-    (leb r.kind 4
-    || eqb r.kind 5 && leb r.b4 1
-    || (eqb r.kind 6 || eqb r.kind 7) && leb r.b4 1
-    || eqb r.kind 8 && poke_fits r.b4 r.b0
-    || eqb r.kind 9 && write_fits r.b4 r.b0 r.a r.len
-    || eqb r.kind 18 && leb r.a old_array)
-    && leb r.len most_payload
-    && leb r.store store_array
-    && leb r.reply reply_array
+fits r = known r.kind r && leb r.len most_payload && leb r.store store_array && leb r.reply reply_array
 
--- "A script .. ends with a record 0; the end of input counts as a record 0"; "A record cut by the end of input: `? cut`"
-unfoldable pub next_in : Bytes → Next
+-- what a record of a kind is, with its number: "A record cut by the end of input: `? cut`"
+abbrev pub played : Bytes → (number : ℕ) → Record → Result (Option Record) Stop
+played p number r = cond (not (fits r)) (Err (Bad number)) (cond (ltb (length p) (header_bytes + r.len)) (Err Cut) (Ok (Some r)))
+
+abbrev pub next_of : Bytes → (number : ℕ) → Result Kind Stop → Result (Option Record) Stop
+next_of p number (Err stop) = Err stop
+next_of p number (Ok End) = Ok None
+next_of p number (Ok kind) = played p number (record_in kind p)
+
+-- "A script .. ends with a record 0; the end of input counts as a record 0"
+unfoldable pub next_in : Bytes → Result (Option Record) Stop
 next_in p =
-    let r = record_in p in
-    cond (eqb (length p) 0) End
-    (cond (ltb (length p) header_bytes) Cut
-    (cond (eqb r.kind 0) End
-    (cond (not (fits r)) (Bad r.kind)
-    (cond (ltb (length p) (header_bytes + r.len)) Cut
-    (Play r)))))
+    let number = get_or p 0 0 in
+    cond (eqb (length p) 0) (Ok None)
+    (cond (ltb (length p) header_bytes) (Err Cut)
+    (next_of p number (kind_of number)))

@@ -2,50 +2,21 @@
 // are little-endian.
 #![tactic(auto)]
 
+mod kinds;
+
 ghost use Rattle.std.specs.Prelude.{◌≡◌, ◌≤◌, length};
-ghost use Rattle.script.specs.Records.{header_bytes, record_in, poke_fits, words_fit, items_fit, bytes_fit, write_fits, fits as Records·fits, next_in};
+ghost use Rattle.script.specs.Records.{header_bytes, record_in, poke_fits, words_fit, items_fit, bytes_fit, write_fits, known as Records·known, fits as Records·fits, next_in};
 
 use fields::{u16_at, u32_at};
+pub use kinds::{Kind, Stop, Target};
 use limits::{ITEM_WORDS, JUMP_COUNTS, RALLY};
 use writing::WORD_BYTES;
 
-// The types of records.
-pub const END: u8 = 0;
-
-pub const MESSAGE: u8 = 1;
-
-pub const TIMER: u8 = 2;
-
-pub const DONE: u8 = 3;
-
-pub const DUMP: u8 = 4;
-
-pub const FRESH: u8 = 5;
-
-pub const SNAP: u8 = 6;
-
-pub const CMP: u8 = 7;
-
-pub const POKE: u8 = 8;
-
-pub const WRITE: u8 = 9;
-
-pub const MOVE: u8 = 18;
-
-// The setting that FRESH takes by b4, where it is not 0: item 0 is home.
+// The setting that a fresh start takes by b4, where it is not 0: item 0 is home.
 pub const HOME: u8 = 1;
 
-// What SNAP and CMP take by b4 in the place of the store array, which is 0: the byte array of the old store.
+// What a copy and a comparison take by b4 in the place of the store array, which is 0: the byte array of the old store.
 pub const OLD: u8 = 1;
-
-// Where WRITE writes, by b4: words of the store array, items of a plan in its half or in the other one, bytes of the old store.
-pub const TO_WORDS: u8 = 0;
-
-pub const TO_PLAN: u8 = 1;
-
-pub const TO_OTHER_HALF: u8 = 2;
-
-pub const TO_OLD: u8 = 3;
 
 pub const HEADER_BYTES: usize = 24;
 
@@ -64,7 +35,7 @@ const STORED_BYTES: usize = ITEM_WORDS * WORD_BYTES;
 // A record's header; store and reply are the lengths lent to the call.
 #[derive(Clone, Copy)]
 pub struct Record {
-    pub kind: u8,
+    pub kind: Kind,
     pub b0: u8,
     pub b1: u8,
     pub b2: u8,
@@ -77,22 +48,12 @@ pub struct Record {
     pub reply: usize,
 }
 
-// What stands next in a script: a record whose payload follows its header, the end, a record that the end of input cuts, or one that cannot
-// be played, with its type.
-#[derive(Clone, Copy)]
-pub enum Next {
-    Play(Record),
-    End,
-    Cut,
-    Bad(u8),
-}
-
-fn record_in(bytes: &[u8]) -> Record
+fn record_in(kind: Kind, bytes: &[u8]) -> Record
     requires { header_bytes ≤ length bytes.now }
-    ensures { result ≡ record_in bytes.now }
+    ensures { result ≡ record_in kind bytes.now }
 {
     Record {
-        kind: bytes[0],
+        kind,
         b0: bytes[1],
         b1: bytes[2],
         b2: bytes[3],
@@ -107,15 +68,20 @@ fn record_in(bytes: &[u8]) -> Record
 }
 
 // Whether a number of the state has such a field and index.
+#[tactic(auto, unfolding(crate::specs::Records::poke_fits))]
 fn poke_fits(field: u8, index: u8) -> bool
     ensures { result ≡ poke_fits field index }
 {
-    ((field <= 9) | (13 <= field) & (field <= 15)) & (index < 3)
-        | ((field == 10) | (field == 11)) & (index == 0)
-        | (field == 12) & ((index as usize) < JUMP_COUNTS)
+    match field {
+        0..=9 | 13..=15 => index < 3,
+        10 | 11 => index == 0,
+        12 => (index as usize) < JUMP_COUNTS,
+        _ => false,
+    }
 }
 
 // Whether a row of words fits the store array from a word on.
+#[tactic(auto, unfolding(crate::specs::Records::words_fit))]
 fn words_fit(at: u32, len: usize) -> bool
     ensures { result ≡ words_fit at len }
 {
@@ -123,6 +89,7 @@ fn words_fit(at: u32, len: usize) -> bool
 }
 
 // Whether a row of items fits the plan of a kind from an item on.
+#[tactic(auto, unfolding(crate::specs::Records::items_fit))]
 fn items_fit(kind: u8, at: u32, len: usize) -> bool
     ensures { result ≡ items_fit kind at len }
 {
@@ -131,55 +98,71 @@ fn items_fit(kind: u8, at: u32, len: usize) -> bool
 }
 
 // Whether bytes fit the old store's array from a byte on.
+#[tactic(auto, unfolding(crate::specs::Records::bytes_fit))]
 fn bytes_fit(at: u32, len: usize) -> bool
     ensures { result ≡ bytes_fit at len }
 {
-    if OLD_ARRAY < len {
-        return false;
-    }
-    at as usize <= OLD_ARRAY - len
+    len <= OLD_ARRAY && at as usize <= OLD_ARRAY - len
 }
 
 // Whether a payload fits where it is to go.
+#[tactic(auto, unfolding(crate::specs::Records::write_fits))]
 fn write_fits(to: u8, kind: u8, at: u32, len: usize) -> bool
     ensures { result ≡ write_fits to kind at len }
 {
-    (to == TO_WORDS) & words_fit(at, len)
-        | ((to == TO_PLAN) | (to == TO_OTHER_HALF)) & items_fit(kind, at, len)
-        | (to == TO_OLD) & bytes_fit(at, len)
+    match Target::try_from(to) {
+        Ok(Target::Words) => words_fit(at, len),
+        Ok(Target::Plan | Target::OtherHalf) => items_fit(kind, at, len),
+        Ok(Target::Old) => bytes_fit(at, len),
+        Err(_) => false,
+    }
+}
+
+// Whether a record's parts are such as its kind takes.
+fn known(r: Record) -> bool
+    ensures { result ≡ Records·known r.kind r }
+{
+    let kind = r.kind;
+    match kind {
+        Kind::End | Kind::Message | Kind::Timer | Kind::Done | Kind::Dump => true,
+        Kind::Fresh => r.b4 <= HOME,
+        Kind::Snap | Kind::Compare => r.b4 <= OLD,
+        Kind::Poke => poke_fits(r.b4, r.b0),
+        Kind::Write => write_fits(r.b4, r.b0, r.a, r.len),
+        Kind::Move => r.a as usize <= OLD_ARRAY,
+    }
 }
 
 // Whether a record can be played.
+#[tactic(auto, unfolding(crate::specs::Records::fits))]
 fn fits(r: Record) -> bool
     ensures { result ≡ Records·fits r }
 {
-    let known = (r.kind <= DUMP)
-        | (r.kind == FRESH) & (r.b4 <= HOME)
-        | ((r.kind == SNAP) | (r.kind == CMP)) & (r.b4 <= OLD)
-        | (r.kind == POKE) & poke_fits(r.b4, r.b0)
-        | (r.kind == WRITE) & write_fits(r.b4, r.b0, r.a, r.len)
-        | (r.kind == MOVE) & (r.a as usize <= OLD_ARRAY);
-    known & (r.len <= MOST_PAYLOAD) & (r.store <= STORE_ARRAY) & (r.reply <= REPLY_ARRAY)
+    known(r) & (r.len <= MOST_PAYLOAD) & (r.store <= STORE_ARRAY) & (r.reply <= REPLY_ARRAY)
 }
 
-pub fn next_record(bytes: &[u8]) -> Next
+// The record that stands next, whose payload follows its header; none at the end.
+#[tactic(auto, unfolding(crate::specs::Records::next_in))]
+pub fn next_record(bytes: &[u8]) -> Result<Option<Record>, Stop>
     ensures { result ≡ next_in bytes.now }
 {
-    if bytes.len() == 0 {
-        return Next::End;
+    if bytes.is_empty() {
+        return Ok(None);
     }
     if bytes.len() < HEADER_BYTES {
-        return Next::Cut;
+        return Err(Stop::Cut);
     }
-    let r = record_in(bytes);
-    if r.kind == END {
-        return Next::End;
+    let number = bytes[0];
+    let kind = Kind::try_from(number)?;
+    if kind == Kind::End {
+        return Ok(None);
     }
+    let r = record_in(kind, bytes);
     if !fits(r) {
-        return Next::Bad(r.kind);
+        return Err(Stop::Bad(number));
     }
     if bytes.len() - HEADER_BYTES < r.len {
-        return Next::Cut;
+        return Err(Stop::Cut);
     }
-    Next::Play(r)
+    Ok(Some(r))
 }

@@ -4,5 +4,5 @@
 
 mod numerals;
 
-pub use adding::{first, part, part_words, put, put_byte, within, within_words};
+pub use adding::{first, part, put, put_byte, within};
 pub use numerals::{put_hex, put_number, put_numbers, put_shorts};

@@ -1,6 +1,5 @@
 -- `adding::put` meets its contract. The loop's invariant: the first i bytes are added.
 use native.Mathlib.Omega.{arith}
-use Prim.Native.Nat.{◌-◌}
 use borrow.Author.Rules.{rules}
 use Rattle.adding.specs.Laws.{adds_nothing, put_more, whole_list}
 use Rattle.adding.proofs.put.Goals as goal

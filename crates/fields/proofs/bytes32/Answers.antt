@@ -1,8 +1,7 @@
--- `fields::bytes32` meets its contract, which is its code.
-use mathlib.Core.Path.{refl}
-use Rattle.rules.specs.Payload.{bytes_of}
+-- The library's bytes of the number are the rules'.
+use Rattle.std.proofs.Common.{◌∙◌}
+use Rattle.fields.proofs.Bytes.{wrote_four}
 use Rattle.fields.proofs.bytes32.Goals as goal
 
 pub returns : goal.returns
-unfolding bytes_of
-returns c = refl
+returns c = c.to_le_bytes.ensures ∙ wrote_four c.args.n

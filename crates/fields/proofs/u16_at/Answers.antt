@@ -1,7 +1,7 @@
--- `fields::u16_at` meets its contract: a number of two bytes is its low byte and 256 times its high one.
-use native.Mathlib.Omega.{arith}
-use Rattle.fields.specs.Numbers.{number_two}
+-- The library's number of those bytes is the rules'.
+use Rattle.std.proofs.Common.{◌∙◌}
+use Rattle.fields.proofs.Bytes.{same_number, read_two}
 use Rattle.fields.proofs.u16_at.Goals as goal
 
 pub returns : goal.returns
-returns c = let a = c.args in omega (arith, number_two a.at a.p.now)
+returns c = let b = c.bytes_at.result in c.from_le_bytes.ensures ∙ read_two b ∙ same_number 2 c.args.at b c.args.p.now c.bytes_at.ensures

@@ -7,7 +7,7 @@ pub returns : goal.returns
 unfolding record_in
 returns c = let p = c.args.bytes.now in
     λ i. record {
-      kind = get_or p 0 0;
+      kind = c.args.kind;
       b0 = get_or p 1 0;
       b1 = get_or p 2 0;
       b2 = get_or p 3 0;
