@@ -1,8 +1,7 @@
 -- The item struct and the rules' item, which has the 32-bit patterns alone.
 use Rattle.std.specs.Prelude.{ℕ, ◌≡◌}
-use Rattle.std.proofs.Common.{sym, ap, ◌∙◌}
+use Rattle.std.proofs.Common.{refl, sym, ap, ◌∙◌}
 use Rattle.rules.specs.Messages as rules
-use Rattle.rules.specs.Values.{float, signed}
 use Rattle.item.specs.declared.Item.{Item}
 
 -- what the struct keeps of an item, "bit for bit, NaN included"
@@ -23,17 +22,10 @@ patterns item =
       kind = item.kind;
     }
 
--- "x and y are signed 32-bit, params and z are 32-bit floats": the struct of an item, with its values beside its patterns
+-- the struct of an item: "x and y are signed 32-bit, params and z are 32-bit floats", whose values the struct's methods say
 abbrev pub item_for : rules.Item → Item
 item_for i =
     record {
-      param1 = float i.param1;
-      param2 = float i.param2;
-      param3 = float i.param3;
-      param4 = float i.param4;
-      z = float i.z;
-      x = signed i.x;
-      y = signed i.y;
       bits1 = i.param1;
       bits2 = i.param2;
       bits3 = i.param3;
@@ -66,10 +58,13 @@ item_with param1 param2 param3 param4 x y z seq command frame autocontinue kind 
       kind = kind;
     }
 
--- ---- the struct of an item keeps the item, and has its values: what the functions over an item require
+-- ---- the struct of an item keeps the item, and is made of it
 
 pub patterns_of : {item : Item} {i : rules.Item} → item ≡ item_for i → patterns item ≡ i
 patterns_of e = ap patterns e
+
+pub item_for_patterns : (item : Item) → item ≡ item_for (patterns item)
+item_for_patterns item = refl
 
 pub values_of : {item : Item} {i : rules.Item} → item ≡ item_for i → item ≡ item_for (patterns item)
 values_of e = e ∙ ap item_for (sym (patterns_of e))
