@@ -56,10 +56,7 @@ fn put_state(out: &mut [u8], at: usize, halves: bool, state: State, store: &[u32
 fn in_range(state: State) -> bool
     ensures { (store : Store) → result ≡ in_range (view state store) }
 {
-    let flight = state.plans[0];
-    let fence = state.plans[1];
-    let rally = state.plans[2];
-    ranges::ranged(flight, fence, rally, state.current, state.counts)
+    ranges::ranged(&state)
 }
 
 // The whole dump; outcome 15 alone where a number of the state is out of its range. With the lowest bit of the options set no halves are told.

@@ -1,11 +1,9 @@
 -- A number of the state that a host sets, by its field and index: POKE of a call script. "b4 is the field, b0 the index, a the new value."
-use Rattle.std.specs.Prelude.{ℕ, ◌%◌, false, not, ◌&&◌, cond, List, eqb, leb, ltb, get_or, set}
+use Rattle.std.specs.Prelude.{ℕ, ◌%◌, false, not, ◌&&◌, cond, List, eqb, leb, ltb, get_or, set, Option, Some, None}
 use Rattle.rules.specs.Limits.{rally, max_jumps}
 use Rattle.plan.specs.declared.Plan.{Plan}
 use Rattle.plan.specs.declared.Run.{Run}
 use Rattle.plan.specs.declared.State.{State}
-use Rattle.plan.specs.declared.Upload.{Upload}
-use Rattle.plan.specs.declared.Upload.TheVariants.{Idle, Running}
 use Rattle.plan.specs.View.{empty_plan}
 
 -- 4 and 5 the upload's station, 6 its count, 7 its next number, 8 its last start, 9 its repeats; "POKE fields 13 partial (0 or 1), 14 first, 15 last, index the
@@ -13,8 +11,7 @@ use Rattle.plan.specs.View.{empty_plan}
 unfoldable pub poked_run : Run → (field value : ℕ) → Run
 poked_run r field v =
     record {
-      system = cond (eqb field 4) (v % 256) r.system;
-      component = cond (eqb field 5) (v % 256) r.component;
+      from = record { system = cond (eqb field 4) (v % 256) r.from.system; component = cond (eqb field 5) (v % 256) r.from.component };
       count = cond (eqb field 6) (v % 65536) r.count;
       partial = cond (eqb field 13) (not (eqb v 0)) r.partial;
       first = cond (eqb field 14) (v % 65536) r.first;
@@ -25,13 +22,13 @@ poked_run r field v =
     }
 
 -- an upload that starts has zeros
-abbrev pub started : Upload
-started = Running (record { system = 0; component = 0; count = 0; partial = false; first = 0; last = 0; next = 0; started = 0; repeats = 0 })
+abbrev pub started : Run
+started = record { from = record { system = 0; component = 0 }; count = 0; partial = false; first = 0; last = 0; next = 0; started = 0; repeats = 0 }
 
 -- 3 whether an upload runs: one that runs keeps its numbers
-unfoldable pub poked_upload : Upload → (field value : ℕ) → Upload
-poked_upload Idle field v = cond (eqb field 3 && not (eqb v 0)) started Idle
-poked_upload (Running r) field v = cond (eqb field 3 && eqb v 0) Idle (Running (poked_run r field v))
+unfoldable pub poked_upload : Option Run → (field value : ℕ) → Option Run
+poked_upload None field v = cond (eqb field 3 && not (eqb v 0)) (Some started) None
+poked_upload (Some r) field v = cond (eqb field 3 && eqb v 0) None (Some (poked_run r field v))
 
 -- 0 the plan's length, 1 its number, 2 its half
 unfoldable pub poked_plan : Plan → (field value : ℕ) → Plan

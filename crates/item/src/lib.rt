@@ -1,29 +1,25 @@
-// The mission item as a struct by value, made of patterns, its numbers, and its 38 bytes. The values of its fields are read by the crate values; judging it
-// is left to item_rules.
+// The mission item as a struct by value, made of its patterns and numbers, with what the patterns stand for, and its 38 bytes. Judging it is left to item_rules.
 #![tactic(auto)]
 
+mod meaning;
 mod payload;
 
 ghost use Rattle.std.specs.Prelude.{◌≡◌};
-ghost use Rattle.rules.specs.Items.{is_jump};
-ghost use Rattle.rules.specs.NextCommand.{repeat_of};
-ghost use Rattle.rules.specs.Values.{float, whole_of, whole_number};
-ghost use Rattle.item.specs.Patterns.{item_for, item_with, patterns};
+ghost use Rattle.rules.specs.Values.{float, signed};
 
-use limits::JUMP;
+pub use meaning::made;
 pub use payload::{item_at, item_bytes};
-use values::Whole;
 
-// Params, x, y and z as values, with their 32-bit patterns beside them: a NaN's bits do not survive an f32.
+// Params, x, y and z as values, with their 32-bit patterns beside them: a NaN's bits do not survive an f32. The methods give the values.
 #[derive(Clone, Copy)]
 pub struct Item {
-    pub param1: f32,
-    pub param2: f32,
-    pub param3: f32,
-    pub param4: f32,
-    pub z: f32,
-    pub x: i32,
-    pub y: i32,
+    param1: f32,
+    param2: f32,
+    param3: f32,
+    param4: f32,
+    z: f32,
+    x: i32,
+    y: i32,
     pub bits1: u32,
     pub bits2: u32,
     pub bits3: u32,
@@ -36,78 +32,55 @@ pub struct Item {
     pub frame: u8,
     pub autocontinue: u8,
     pub kind: u8,
+    ghost param1_is: { param1 ≡ float bits1 },
+    ghost param2_is: { param2 ≡ float bits2 },
+    ghost param3_is: { param3 ≡ float bits3 },
+    ghost param4_is: { param4 ≡ float bits4 },
+    ghost z_is: { z ≡ float bits_z },
+    ghost x_is: { x ≡ signed bits_x },
+    ghost y_is: { y ≡ signed bits_y },
 }
 
-// The item of these patterns and numbers.
-pub fn made(
-    bits1: u32,
-    bits2: u32,
-    bits3: u32,
-    bits4: u32,
-    bits_x: u32,
-    bits_y: u32,
-    bits_z: u32,
-    seq: u16,
-    command: u16,
-    frame: u8,
-    autocontinue: u8,
-    kind: u8,
-) -> Item
-    ensures { result ≡ item_for (item_with bits1 bits2 bits3 bits4 bits_x bits_y bits_z seq command frame autocontinue kind) }
-{
-    Item {
-        param1: values::float_of(bits1),
-        param2: values::float_of(bits2),
-        param3: values::float_of(bits3),
-        param4: values::float_of(bits4),
-        z: values::float_of(bits_z),
-        x: values::signed_of(bits_x),
-        y: values::signed_of(bits_y),
-        bits1,
-        bits2,
-        bits3,
-        bits4,
-        bits_x,
-        bits_y,
-        bits_z,
-        seq,
-        command,
-        frame,
-        autocontinue,
-        kind,
+impl Item {
+    pub fn param1(self) -> f32
+        ensures { result ≡ float self.bits1 }
+    {
+        self.param1
     }
-}
 
-pub fn is_jump(item: Item) -> bool
-    ensures { result ≡ is_jump (patterns item) }
-{
-    item.command == JUMP
-}
+    pub fn param2(self) -> f32
+        ensures { result ≡ float self.bits2 }
+    {
+        self.param2
+    }
 
-// Param 1 as a number: a jump's target, a servo's channel, a vertex's count of vertices. 0 where it is none that is at least 0.
-pub fn number1(item: Item) -> u32
-    requires { item ≡ item_for (patterns item) }
-    ensures { result ≡ whole_number (whole_of (float (patterns item).param1)) }
-{
-    values::number_of(item.param1)
-}
+    pub fn param3(self) -> f32
+        ensures { result ≡ float self.bits3 }
+    {
+        self.param3
+    }
 
-// Param 2 as a number: a servo's pulse. 0 where it is none that is at least 0.
-pub fn number2(item: Item) -> u32
-    requires { item ≡ item_for (patterns item) }
-    ensures { result ≡ whole_number (whole_of (float (patterns item).param2)) }
-{
-    values::number_of(item.param2)
-}
+    pub fn param4(self) -> f32
+        ensures { result ≡ float self.bits4 }
+    {
+        self.param4
+    }
 
-// A jump's repeat: 1 where param 2 has no value.
-pub fn repeat_of(item: Item) -> i32
-    requires { item ≡ item_for (patterns item) }
-    ensures { result ≡ repeat_of (patterns item) }
-{
-    match values::whole_of(item.param2) {
-        Whole::Integer(times) => times,
-        Whole::NoValue => 1,
-        Whole::NotWhole => 0,
+    pub fn z(self) -> f32
+        ensures { result ≡ float self.bits_z }
+    {
+        self.z
+    }
+
+    pub fn x(self) -> i32
+        ensures { result ≡ signed self.bits_x }
+    {
+        self.x
+    }
+
+    pub fn y(self) -> i32
+        ensures { result ≡ signed self.bits_y }
+    {
+        self.y
     }
 }

@@ -1,5 +1,5 @@
 -- The ranges of outcome 15 over a state alone; `ranged_view` has them as the rules' own.
-use Rattle.std.specs.Prelude.{◌≡◌, List, Bool, true, ◌&&◌, ◌||◌, ℕ, eqb, leb, ltb}
+use Rattle.std.specs.Prelude.{◌≡◌, List, Bool, true, ◌&&◌, ◌||◌, ℕ, eqb, leb, ltb, Option, Some, None}
 use Rattle.std.proofs.Math.Path.{refl}
 use Rattle.std.proofs.Common.{sym, ◌∙◌}
 use Rattle.std.proofs.Math.Bool.{and-true, and_assoc}
@@ -8,8 +8,6 @@ use Rattle.rules.specs.Model.{every, in_range, task_in_range, upload_in_range}
 use Rattle.plan.specs.declared.State.{State}
 use Rattle.plan.specs.declared.Plan.{Plan}
 use Rattle.plan.specs.declared.Run.{Run}
-use Rattle.plan.specs.declared.Upload.{Upload}
-use Rattle.plan.specs.declared.Upload.TheVariants.{Idle, Running}
 use Rattle.places.specs.Forms.{Store, Form, length_items}
 use Rattle.plan.specs.View.{view_in, plan_of, task_in, upload_in}
 
@@ -17,9 +15,9 @@ use Rattle.plan.specs.View.{view_in, plan_of, task_in, upload_in}
 abbrev pub run_ranged : (size len : ℕ) → Run → Bool
 run_ranged size len r = leb 1 r.count && leb r.count size && task_in_range len (task_in r) r.next && leb r.repeats max_repeats
 
-abbrev pub upload_ranged : (size len : ℕ) → Upload → Bool
-upload_ranged size len Idle = true
-upload_ranged size len (Running r) = run_ranged size len r
+abbrev pub upload_ranged : (size len : ℕ) → Option Run → Bool
+upload_ranged size len None = true
+upload_ranged size len (Some r) = run_ranged size len r
 
 -- "a plan's length at most its size"
 unfoldable pub plan_ranged : (size : ℕ) → Plan → Bool
@@ -38,10 +36,10 @@ abbrev pub all_ranged : (flight fence rally : Plan) (current : ℕ) (counts : Li
 all_ranged p q r current counts = plans_ranged p q r && (ltb current p.len || eqb current 0) && counts_ranged counts
 
 module _ (F : Form) where
-  upload_ranged_lem : (store : Store) (half : Bool) (kind len : ℕ) (u : Upload) → upload_in_range kind len (upload_in F store half kind u) ≡ upload_ranged (size_of kind) len u
+  upload_ranged_lem : (store : Store) (half : Bool) (kind len : ℕ) (u : Option Run) → upload_in_range kind len (upload_in F store half kind u) ≡ upload_ranged (size_of kind) len u
   unfolding upload_in_range upload_in
-  upload_ranged_lem store half kind len Idle = refl
-  upload_ranged_lem store half kind len (Running r) = refl
+  upload_ranged_lem store half kind len None = refl
+  upload_ranged_lem store half kind len (Some r) = refl
 
   pub ranged_view : (st : State) (store : Store) → in_range (view_in F st store) ≡ all_ranged (plan_of st flight) (plan_of st fence) (plan_of st rally) st.current st.counts
   unfolding in_range view_in plan_ranged counts_ranged

@@ -2,15 +2,17 @@
 #![tactic(auto)]
 
 ghost use Rattle.std.specs.Prelude.{◌≡◌};
+ghost use Rattle.rules.specs.Limits.{flight, fence, rally};
 ghost use Rattle.rules.specs.Model.{task_in_range};
-ghost use Rattle.plan.specs.View.{task_in};
+ghost use Rattle.plan.specs.View.{task_in, plan_of};
 ghost use Rattle.ranges.specs.Ranges.{run_ranged, upload_ranged, plan_ranged, counts_ranged, all_ranged};
 
 use limits::{FENCE, FLIGHT, JUMP_COUNTS, MAX_REPEATS, MAX_RUNS, RALLY};
 use places::size_of;
-use plan::{Plan, Run, Upload};
+use plan::{Plan, Run, State};
 
 // The first, last and next number of an upload, beside a plan of `len` items. Of a part the count is that length; a whole one brings every number below its count.
+#[tactic(auto, unfolding(rules::specs::Model::task_in_range))]
 fn task_ranged(run: Run, len: u16) -> bool
     ensures { result ≡ task_in_range len (task_in run) run.next }
 {
@@ -32,48 +34,34 @@ fn run_ranged(run: Run, size: u16, len: u16) -> bool
     (1 <= run.count) & (run.count <= size) & task_ranged(run, len) & (run.repeats <= MAX_REPEATS)
 }
 
-fn upload_ranged(upload: Upload, size: u16, len: u16) -> bool
+fn upload_ranged(upload: Option<Run>, size: u16, len: u16) -> bool
     ensures { result ≡ upload_ranged size len upload }
 {
-    match upload {
-        Upload::Idle => true,
-        Upload::Running(run) => run_ranged(run, size, len),
-    }
+    upload.is_none_or(|run| run_ranged(run, size, len))
 }
 
+#[tactic(auto, unfolding(crate::specs::Ranges::plan_ranged))]
 fn plan_ranged(plan: Plan, size: u16) -> bool
     ensures { result ≡ plan_ranged size plan }
 {
-    let upload = plan.upload;
-    (plan.len <= size) & upload_ranged(upload, size, plan.len)
+    (plan.len <= size) & upload_ranged(plan.upload, size, plan.len)
 }
 
-// All are looked at: a loop that does not leave early is one that the compiler makes wide.
-fn counts_ranged(counts: [u16; JUMP_COUNTS]) -> bool
-    ensures { result ≡ counts_ranged counts }
+// All are looked at: a fold that does not leave early is one that the compiler makes wide.
+fn counts_ranged(counts: &[u16; JUMP_COUNTS]) -> bool
+    ensures { result ≡ counts_ranged counts.now }
 {
-    let mut ok = true;
-    let mut i: usize = 0;
-    while i < JUMP_COUNTS {
-        ok = ok & (counts[i] <= MAX_RUNS);
-        i += 1;
-    }
-    ok
+    counts.iter().fold(true, |ok, n| ok & (*n <= MAX_RUNS))
 }
 
-// Whether every number of a state with these plans is in its range.
-pub fn ranged(
-    flight: Plan,
-    fence: Plan,
-    rally: Plan,
-    current: u16,
-    counts: [u16; JUMP_COUNTS],
-) -> bool
-    ensures { result ≡ all_ranged flight fence rally current counts }
+// Whether every number of a state is in its range.
+pub fn ranged(state: &State) -> bool
+    ensures { result ≡ all_ranged (plan_of state.now flight) (plan_of state.now fence) (plan_of state.now rally) state.now.current state.now.counts }
 {
+    let [flight, fence, rally] = state.plans;
     plan_ranged(flight, size_of(FLIGHT))
         & plan_ranged(fence, size_of(FENCE))
         & plan_ranged(rally, size_of(RALLY))
-        & ((current < flight.len) | (current == 0))
-        & counts_ranged(counts)
+        & ((state.current < flight.len) | (state.current == 0))
+        & counts_ranged(&state.counts)
 }

@@ -1,7 +1,7 @@
 -- A front part of the store that is long enough shows what the whole store shows, for a state in its ranges.
 use Prim.Native.Nat.{ℕ, zero, suc, ◌+◌, ◌≤◌}
 use Rattle.std.proofs.Common.{arith, ◌∙◌, leb-true}
-use Rattle.std.specs.Prelude.{◌≡◌, Bool, true, not, length, take}
+use Rattle.std.specs.Prelude.{◌≡◌, Bool, true, not, length, take, Option, Some, None}
 use Rattle.std.proofs.Math.Path.{refl, ap, ap₂}
 use mathlib.Core.List.{List, [], ◌∷◌, ◌++◌}
 use Rattle.std.proofs.Math.ListN.{drop, length-drop}
@@ -12,8 +12,7 @@ use Rattle.rules.specs.Payload.{Bytes}
 use Rattle.rules.specs.Model.{running, in_range}
 use Rattle.rules.specs.Calls.{is_known}
 use Rattle.plan.specs.declared.State.{State}
-use Rattle.plan.specs.declared.Upload.{Upload}
-use Rattle.plan.specs.declared.Upload.TheVariants.{Idle, Running}
+use Rattle.plan.specs.declared.Run.{Run}
 use Rattle.places.specs.Part.{part}
 use Rattle.places.specs.Forms.{Store, Form, least, offset_of, item_at, items_in}
 use Rattle.places.specs.Places.{Lawful, offset_within}
@@ -37,10 +36,10 @@ module _ (F : Form) (lawful : Lawful F) where
     plan_front : (k : ℕ) → is_known k ≡ true → items_in F (lent ++ rest) (plan_of st k).half k (plan_of st k).len ≡ items_in F lent (plan_of st k).half k (plan_of st k).len
     plan_front k known = items_front lent rest (plan_of st k).half k (plan_of st k).len long (leb-true k rally known) (len_ranged F lawful st lent ranged k known)
 
-    upload_front : (k : ℕ) → is_known k ≡ true → (u : Upload) → (plan_of st k).upload ≡ u → upload_in F (lent ++ rest) (not (plan_of st k).half) k u ≡ upload_in F lent (not (plan_of st k).half) k u
+    upload_front : (k : ℕ) → is_known k ≡ true → (u : Option Run) → (plan_of st k).upload ≡ u → upload_in F (lent ++ rest) (not (plan_of st k).half) k u ≡ upload_in F lent (not (plan_of st k).half) k u
     unfolding upload_in
-    upload_front k known Idle e = refl
-    upload_front k known (Running r) e =
+    upload_front k known None e = refl
+    upload_front k known (Some r) e =
         ap (λ (l : List Bytes). running (record { station = station_in r; task = task_in r; next = r.next; taken = drop r.first l; started = r.started; repeats = r.repeats }))
         (items_front lent rest (not (plan_of st k).half) k r.next long (leb-true k rally known) (let below = next_below F lawful st lent ranged k known r e in omega arith))
 

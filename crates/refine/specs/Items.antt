@@ -2,13 +2,13 @@
 use Prim.Native.Nat.{ℕ, ◌+◌, ◌≤◌, ◌<◌}
 use Rattle.std.proofs.Common.{arith, add-one, sym, subst, ◌∙◌, leb-true, eqb-true}
 use Rattle.std.proofs.Math.Decide.{ℕ_discrete}
-use Rattle.std.specs.Prelude.{◌≡◌, Bool, not, cond, length, take, eqb}
+use Rattle.std.specs.Prelude.{◌≡◌, Bool, not, cond, length, take, eqb, Option, Some, None, Ok, Err}
 use Rattle.std.proofs.Math.Path.{refl, ap, ap₂}
 use mathlib.Core.List.{List, [], ◌∷◌, ◌++◌}
 use Rattle.std.proofs.Math.Bool.{true, false, not-not}
 use Rattle.std.proofs.Math.ListN.{set, drop}
 use Rattle.std.proofs.lemmas.List.{drop-append-le}
-use Rattle.std.proofs.lemmas.Bool.{not-false}
+use Rattle.std.proofs.lemmas.Bool.{not-true, not-false}
 use Rattle.rules.specs.Limits.{flight, fence, rally, kinds, size_of, accepted, invalid_sequence, denied}
 use Rattle.rules.specs.Payload.{Bytes}
 use Rattle.rules.specs.Messages.{Station, Item, ack, item_of, same_station}
@@ -24,8 +24,7 @@ use Rattle.rule_laws.specs.Tasks.{RunRanges, run_ranges}
 use Rattle.plan.specs.declared.State.{State}
 use Rattle.plan.specs.declared.Plan.{Plan}
 use Rattle.plan.specs.declared.Run.{Run}
-use Rattle.plan.specs.declared.Upload.{Upload}
-use Rattle.plan.specs.declared.Upload.TheVariants.{Idle, Running}
+use Rattle.limits.specs.declared.Fault.TheVariants.{InvalidSequence, Denied}
 use Rattle.places.specs.Forms.{Store, Form, least, items_in, length_items}
 use Rattle.places.specs.Places.{Lawful}
 use Rattle.places.specs.Writes.{put_at, Elsewhere, other_half, other_kind, Leaves, leaves_both, leaves_wider, items_left, put_leaves, items_more, stored_item}
@@ -35,12 +34,14 @@ use Rattle.upload.specs.declared.Say.{Say}
 use Rattle.upload.specs.declared.Say.TheVariants.{Ack, Ask}
 use Rattle.upload.specs.declared.Effect.TheVariants.{Renews, Changes}
 use Rattle.upload.specs.declared.Turned.{Turned}
+use Rattle.upload.specs.Faults.{fault_named}
 use Rattle.upload.specs.Turns.{with_upload, replaced, one_more, moves, puts_in, TurnAndStore, turn_with, settled, last_turned, valid_item_turned, item_verdict, item_turned}
 use Rattle.upload.specs.Effects.{renewed_state, applied}
 use Rattle.record_steps.specs.Answers.{answer_of}
 use Rattle.refine.specs.After.{after_turn, after_item}
 use Rattle.refine.specs.Views.{plan_shown, upload_shown, length_shown, view_upload, view_renewed}
 use Rattle.refine.specs.Turned.{Agree, kept, ends}
+use Rattle.refine.specs.Named.{verdict_named, whole_named}
 
 module _ (F : Form) (lawful : Lawful F) where
   -- in range, seen from the state
@@ -48,16 +49,16 @@ module _ (F : Form) (lawful : Lawful F) where
     pub len_ranged : (k : ℕ) → is_known k ≡ true → (plan_of st k).len ≤ size_of k
     len_ranged k known = subst (λ (n : ℕ). n ≤ size_of k) (length_shown F st s k known) (ranged_kind (view_in F st s) ranged k known).most
 
-    pub run_ranged_lem : (k : ℕ) → is_known k ≡ true → (r : Run) → (plan_of st k).upload ≡ Running r → RunRanges k (plan_of st k).len (run_in F s (not (plan_of st k).half) k r)
+    pub run_ranged_lem : (k : ℕ) → is_known k ≡ true → (r : Run) → (plan_of st k).upload ≡ Some r → RunRanges k (plan_of st k).len (run_in F s (not (plan_of st k).half) k r)
     unfolding upload_in
     run_ranged_lem k known r runs =
         run_ranges k (plan_of st k).len (run_in F s (not (plan_of st k).half) k r)
-        (subst (λ (u : Upload). upload_in_range k (plan_of st k).len (upload_in F s (not (plan_of st k).half) k u) ≡ true) runs
+        (subst (λ (u : Option Run). upload_in_range k (plan_of st k).len (upload_in F s (not (plan_of st k).half) k u) ≡ true) runs
         (subst (λ (u : model.Upload). upload_in_range k (plan_of st k).len u ≡ true) (upload_shown F st s k known)
         (subst (λ (n : ℕ). upload_in_range k n (model.upload_of (view_in F st s) k) ≡ true) (length_shown F st s k known) (ranged_kind (view_in F st s) ranged k known).upload)))
 
     -- the next place of an upload is one of its kind's
-    pub next_below : (k : ℕ) → is_known k ≡ true → (r : Run) → (plan_of st k).upload ≡ Running r → r.next < size_of k
+    pub next_below : (k : ℕ) → is_known k ≡ true → (r : Run) → (plan_of st k).upload ≡ Some r → r.next < size_of k
     next_below k known r runs = tasks.next_below k (plan_of st k).len (run_in F s (not (plan_of st k).half) k r) (run_ranged_lem k known r runs)
 
   -- writes among a kind's places in the half that its plan is not in leave all that is shown but its upload
@@ -72,10 +73,10 @@ module _ (F : Form) (lawful : Lawful F) where
         away i (yes e) = other_half (ap (λ (n : ℕ). (plan_of st n).half) e ∙ sym (not-not (plan_of st k).half))
         away i (no e) = other_kind e
 
-    uploads_elsewhere : (j : ℕ) → is_known j ≡ true → (j ≡ k → ⊥) → (u : Upload) → (plan_of st j).upload ≡ u → upload_in F s' (not (plan_of st j).half) j u ≡ upload_in F s (not (plan_of st j).half) j u
+    uploads_elsewhere : (j : ℕ) → is_known j ≡ true → (j ≡ k → ⊥) → (u : Option Run) → (plan_of st j).upload ≡ u → upload_in F s' (not (plan_of st j).half) j u ≡ upload_in F s (not (plan_of st j).half) j u
     unfolding upload_in
-    uploads_elsewhere j known' other Idle e = refl
-    uploads_elsewhere j known' other (Running q) e =
+    uploads_elsewhere j known' other None e = refl
+    uploads_elsewhere j known' other (Some q) e =
         ap (λ (l : List Bytes). running (record { station = station_in q; task = task_in q; next = q.next; taken = drop q.first l; started = q.started; repeats = q.repeats }))
         (items_left F (not (plan_of st k).half) k low high s s' leaves (not (plan_of st j).half) j q.next (leb-true j rally known')
         (let below = next_below st s ranged j known' q e in omega arith) (λ i below. other_kind other))
@@ -99,7 +100,7 @@ module _ (F : Form) (lawful : Lawful F) where
             (λ same. rw (same flight refl (λ e. omega arith), same fence refl (λ e. omega arith)))
 
     -- the upload of the kind becomes another
-    pub upload_after : length st.plans ≡ length kinds → (from : Station) (u : Upload) (say : Say) (a : Answer) → answer_of say from k ≡ a
+    pub upload_after : length st.plans ≡ length kinds → (from : Station) (u : Option Run) (say : Say) (a : Answer) → answer_of say from k ≡ a
         → Agree F (after_turn st s' k from (moves (with_upload (plan_of st k) u) say))
         (record { model = record { shown = (view_in F st s).shown; uploads = set (view_in F st s).uploads k (upload_in F s' (not (plan_of st k).half) k u) }; answer = a })
     upload_after three from u say a e =
@@ -117,7 +118,7 @@ module _ (F : Form) (lawful : Lawful F) where
 
   -- a write at the next place of an upload's half
   module _ (st : State) (s : Store) (long : least F ≤ length s) (ranged : in_range (view_in F st s) ≡ true)
-      (k : ℕ) (known : is_known k ≡ true) (r : Run) (running-it : (plan_of st k).upload ≡ Running r) (item : Item) where
+      (k : ℕ) (known : is_known k ≡ true) (r : Run) (running-it : (plan_of st k).upload ≡ Some r) (item : Item) where
     abbrev other : Bool
     other = not (plan_of st k).half
 
@@ -205,7 +206,7 @@ module _ (F : Form) (lawful : Lawful F) where
 
         -- one item taken
         valid_more :
-            Agree F (after_turn st s' k from (moves (with_upload (plan_of st k) (Running (one_more r now))) (Ask (r.next + 1))))
+            Agree F (after_turn st s' k from (moves (with_upload (plan_of st k) (Some (one_more r now))) (Ask (r.next + 1))))
             (record {
               model =
                   record {
@@ -216,7 +217,7 @@ module _ (F : Form) (lawful : Lawful F) where
             })
         unfolding upload_in
         valid_more =
-            let after = upload_after st s s' ranged k known r.next (r.next + 1) written three from (Running (one_more r now)) (Ask (r.next + 1)) (requests from (r.next + 1) k) refl in
+            let after = upload_after st s s' ranged k known r.next (r.next + 1) written three from (Some (one_more r now)) (Ask (r.next + 1)) (requests from (r.next + 1) k) refl in
             record {
               model =
                   after.model
@@ -240,7 +241,7 @@ module _ (F : Form) (lawful : Lawful F) where
         -- the last one: the plan is replaced
         valid_last :
             r.next ≡ r.last
-            → Agree F (after_turn st s'' k from (puts_in r.partial (replaced (plan_of st k) r.count) (Ack accepted (next_number (plan_of st k).number))))
+            → Agree F (after_turn st s'' k from (puts_in r.partial (replaced (plan_of st k) r.count) (Ack (Ok (next_number (plan_of st k).number)))))
             (rule.replaced (view_in F st s) from r.partial k items)
         unfolding upload_in model.put
         valid_last last =
@@ -267,7 +268,9 @@ module _ (F : Form) (lawful : Lawful F) where
         at_last last =
             rw (whole_is last)
             (either₂ (λ (t : Turned) (m : Stepped). Agree F (after_turn st s'' k from t) m) (eqb (whole_fault k (task_in r) items) accepted) (λ t. valid_last last)
-            (λ t. upload_after st s s'' ranged k known 0 r.count settled_leaves three from Idle (Ack (whole_fault k (task_in r) items) 0) (acks from (whole_fault k (task_in r) items) k) refl))
+            (λ t. let result = whole_fault k (task_in r) items in
+            upload_after st s s'' ranged k known 0 r.count settled_leaves three from None (Ack (Err (fault_named result))) (acks from result k)
+            (ap (λ (n : ℕ). acks from n k) ((whole_named k (task_in r) items).named t))))
 
         valid_agrees : Both (valid_item_turned F s' k (plan_of st k) r now) (on_valid_item (view_in F st s) from now k run (item_of item))
         unfolding valid_item_turned on_valid_item
@@ -275,13 +278,15 @@ module _ (F : Form) (lawful : Lawful F) where
             either₂ Both (not (eqb r.next r.last)) (λ t. valid_more) (λ last. at_last (eqb-true r.next r.last (not-false (eqb r.next r.last) last)))
 
     module _ (of_kind : item.kind ≡ k) (three : length st.plans ≡ length kinds) (from : Station) (now : ℕ) where
-      item_runs : Agree F (after_item st k from (item_turned F st.home s k (Running r) (plan_of st k) from now item)) (on_item (running run) (view_in F st s) from now k item)
+      item_runs : Agree F (after_item st k from (item_turned F st.home s k (Some r) (plan_of st k) from now item)) (on_item (running run) (view_in F st s) from now k item)
       unfolding item_turned on_item view_in
       item_runs =
-          either₂ Both' (not (same_station from (station_in r))) (λ t. kept F st s three k known from (Ack denied 0) (acks from denied k) refl)
+          either₂ Both' (not (same_station from (station_in r))) (λ t. kept F st s three k known from (Ack (Err Denied)) (acks from denied k) refl)
           (λ t. either₂ Both' (not (eqb item.seq r.next)) (λ t. kept F st s three k known from (Ask r.next) (requests from r.next k) refl)
           (λ turn. either₂ Both' (not (eqb (item_verdict F st.home s k (plan_of st k) r item) accepted))
-          (λ t. ends F st s three k known from (Ack (item_verdict F st.home s k (plan_of st k) r item) 0) (acks from (item_verdict F st.home s k (plan_of st k) r item) k) refl)
+          (λ t. let verdict = item_verdict F st.home s k (plan_of st k) r item in
+          ends F st s three k known from (Ack (Err (fault_named verdict))) (acks from verdict k)
+          (ap (λ (n : ℕ). acks from n k) ((verdict_named st.home k (task_in r) r.next run.taken item).named (not-true (eqb verdict accepted) t))))
           (λ t. valid_agrees of_kind (eqb-true item.seq r.next (not-false (eqb item.seq r.next) turn)) three from now)))
         where
           Both' : TurnAndStore → Stepped → Type 0
@@ -295,7 +300,7 @@ module _ (F : Form) (lawful : Lawful F) where
   unfolding item_turned on_item upload_in
   item_agrees st s three long ranged k known from now item of_kind = rw (upload_shown F st s k known) (by (plan_of st k).upload refl)
     where
-      by : (u : Upload) → (plan_of st k).upload ≡ u
+      by : (u : Option Run) → (plan_of st k).upload ≡ u
           → Agree F (after_item st k from (item_turned F st.home s k u (plan_of st k) from now item)) (on_item (upload_in F s (not (plan_of st k).half) k u) (view_in F st s) from now k item)
-      by Idle e = kept F st s three k known from (Ack invalid_sequence 0) (acks from invalid_sequence k) refl
-      by (Running r) e = item_runs st s long ranged k known r e item of_kind three from now
+      by None e = kept F st s three k known from (Ack (Err InvalidSequence)) (acks from invalid_sequence k) refl
+      by (Some r) e = item_runs st s long ranged k known r e item of_kind three from now

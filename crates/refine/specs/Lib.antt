@@ -2,6 +2,7 @@
 pub mod After
 pub mod Views
 pub mod Turned
+pub mod Named
 pub mod Items
 pub mod Messages
 pub mod Promise

@@ -1,6 +1,6 @@
 -- The promise of every call, `Serves`, over any type of states and what they show; and what the service's own state says of halves and of the spare places of a
 -- store of a form.
-use Rattle.std.specs.Prelude.{ℕ, ◌+◌, ◌≤◌, ◌≡◌, [], ◌++◌, Bool, true, false, not, cond, ◌&&◌, length, get_or, take, drop, eqb, leb, ltb}
+use Rattle.std.specs.Prelude.{ℕ, ◌+◌, ◌≤◌, ◌≡◌, [], ◌++◌, Bool, true, false, not, cond, ◌&&◌, length, get_or, take, drop, eqb, leb, ltb, Option, Some, None}
 use Rattle.rules.specs.Limits.{rally, store_words, accepted}
 use Rattle.rules.specs.Payload.{Bytes}
 use Rattle.rules.specs.Messages.{Station, same_station, Item}
@@ -12,8 +12,6 @@ use Rattle.rules.specs.Step.{is_refused, outcome_of, reply_id, reply_bytes, comm
 use Rattle.plan.specs.declared.State.{State}
 use Rattle.plan.specs.declared.Plan.{Plan}
 use Rattle.plan.specs.declared.Run.{Run}
-use Rattle.plan.specs.declared.Upload.{Upload}
-use Rattle.plan.specs.declared.Upload.TheVariants.{Idle, Running}
 use Rattle.places.specs.Forms.{Store, Form, least, offset_of}
 use Rattle.plan.specs.View.{plan_of, station_in, task_in}
 
@@ -77,9 +75,9 @@ module _ (F : Form) where
 
   -- An item of a kind, from a station, may change one place: that of the item which the kind's upload expects next, in the half that the plan is not in; where it is the last of a
   -- part, and valid, the places there of all items that the plan is to have; and only where the upload is the station's own and the item has the number that it expects.
-  unfoldable pub spare_in : (home : Bool) → Plan → (kind : ℕ) → Upload → Station → Item → (i : ℕ) → Bool
-  spare_in home p kind Idle from item i = false
-  spare_in home p kind (Running r) from item i =
+  unfoldable pub spare_in : (home : Bool) → Plan → (kind : ℕ) → Option Run → Station → Item → (i : ℕ) → Bool
+  spare_in home p kind None from item i = false
+  spare_in home p kind (Some r) from item i =
       same_station from (station_in r) && eqb item.seq r.next
       && in_places (not p.half) kind (cond (fills_up home kind r item) 0 r.next) (cond (fills_up home kind r item) r.count (r.next + 1)) i
 

@@ -1,5 +1,5 @@
 -- What the code's step keeps of the promise: the model, the answer, halves, and all of the store beside the spare places.
-use Rattle.std.specs.Prelude.{ℕ, ◌+◌, ◌≤◌, ◌≡◌, Bool, ◌&&◌, length, set, ltb}
+use Rattle.std.specs.Prelude.{ℕ, ◌+◌, ◌≤◌, ◌≡◌, Bool, ◌&&◌, length, set, ltb, Option, Some, None}
 use Rattle.std.proofs.Common.{arith, ap₂, ◌∙◌, true≢false, length-set}
 use Rattle.std.proofs.Math.Path.{refl, sym, ap, subst}
 use mathlib.Core.List.{List, [], ◌∷◌}
@@ -22,8 +22,6 @@ use Rattle.rule_laws.specs.Refused.{message_answered, timer_answered}
 use Rattle.plan.specs.declared.State.{State}
 use Rattle.plan.specs.declared.Plan.{Plan}
 use Rattle.plan.specs.declared.Run.{Run}
-use Rattle.plan.specs.declared.Upload.{Upload}
-use Rattle.plan.specs.declared.Upload.TheVariants.{Idle, Running}
 use Rattle.places.specs.Forms.{Store, Form, least, offset_of}
 use Rattle.places.specs.Places.{Lawful}
 use Rattle.places.specs.Writes.{Leaves}
@@ -86,8 +84,8 @@ module _ (F : Form) (lawful : Lawful F) where
     emptied_ok : (is_known k ≡ true) × HalfOk p (emptied p)
     emptied_ok = (known, stays_ok p (emptied p) refl refl)
 
-    runs_ok_lem : (r : Run) → (is_known k ≡ true) × HalfOk p (with_upload p (Running r))
-    runs_ok_lem r = (known, stays_ok p (with_upload p (Running r)) refl refl)
+    runs_ok_lem : (r : Run) → (is_known k ≡ true) × HalfOk p (with_upload p (Some r))
+    runs_ok_lem r = (known, stays_ok p (with_upload p (Some r)) refl refl)
 
     count_ok : (from : Station) (now n size : ℕ) → TurnOk (count_turned p from now n size)
     unfolding count_turned
@@ -105,10 +103,10 @@ module _ (F : Form) (lawful : Lawful F) where
     unfolding ack_turned
     ack_ok from result = either TurnOk (own_upload from p.upload && not (eqb result accepted)) (λ t. ended_ok) (λ t. tt)
 
-    timer_ok : (u : Upload) (now : ℕ) → TurnOk (timer_turned u p now)
+    timer_ok : (u : Option Run) (now : ℕ) → TurnOk (timer_turned u p now)
     unfolding timer_turned
-    timer_ok Idle now = tt
-    timer_ok (Running r) now =
+    timer_ok None now = tt
+    timer_ok (Some r) now =
         either TurnOk (ltb (elapsed now r.started) expiry_ms) (λ t. tt)
         (λ t. either TurnOk (ltb r.repeats max_repeats) (λ t. runs_ok_lem (asked_again r now)) (λ t. ended_ok))
 
@@ -128,10 +126,10 @@ module _ (F : Form) (lawful : Lawful F) where
         either StoredTurnOk (not (eqb r.next r.last)) (λ t. runs_ok_lem (one_more r now))
         (λ t. either TurnOk (eqb (whole_fault k (task_in r) _) accepted) (λ t. puts_ok r.partial r.count) (λ t. ended_ok))
 
-    item_ok : (home : Bool) (s : Store) (u : Upload) (from : Station) (now : ℕ) (item : Item) → StoredTurnOk (item_turned F home s k u p from now item)
+    item_ok : (home : Bool) (s : Store) (u : Option Run) (from : Station) (now : ℕ) (item : Item) → StoredTurnOk (item_turned F home s k u p from now item)
     unfolding item_turned
-    item_ok home s Idle from now item = tt
-    item_ok home s (Running r) from now item =
+    item_ok home s None from now item = tt
+    item_ok home s (Some r) from now item =
         either StoredTurnOk (not (same_station from (station_in r))) (λ t. tt)
         (λ t. either StoredTurnOk (not (eqb item.seq r.next)) (λ t. tt)
         (λ t. either StoredTurnOk (not (eqb (item_verdict F home s k p r item) accepted)) (λ t. ended_ok) (λ t. valid_ok (stored F s k p r item) r now)))
@@ -202,11 +200,11 @@ module _ (F : Form) (lawful : Lawful F) where
         record { numbers = λ i e. leaves.numbers i (outside (offset_of F half k low) (offset_of F half k high) i e); long = leaves.long }
 
     -- by the upload's own station, with the number expected
-    module _ (r : Run) (from : Station) (item : Item) (runs : (plan_of st k).upload ≡ Running r) (own : same_station from (station_in r) ≡ true) (turn : eqb item.seq r.next ≡ true) where
+    module _ (r : Run) (from : Station) (item : Item) (runs : (plan_of st k).upload ≡ Some r) (own : same_station from (station_in r) ≡ true) (turn : eqb item.seq r.next ≡ true) where
       abbrev p : Plan
       p = plan_of st k
 
-      own_beside : (s' : Store) → Leaves F (not p.half) k (cond (fills_up F st.home k r item) 0 r.next) (cond (fills_up F st.home k r item) r.count (r.next + 1)) s s' → Beside s (spare_in F st.home p k (Running r) from item) s'
+      own_beside : (s' : Store) → Leaves F (not p.half) k (cond (fills_up F st.home k r item) 0 r.next) (cond (fills_up F st.home k r item) r.count (r.next + 1)) s s' → Beside s (spare_in F st.home p k (Some r) from item) s'
       unfolding spare_in
       own_beside s' leaves =
           let after = leaves_beside (cond (fills_up F st.home k r item) 0 r.next) (cond (fills_up F st.home k r item) r.count (r.next + 1)) s' leaves in
@@ -227,14 +225,14 @@ module _ (F : Form) (lawful : Lawful F) where
       fills_whole all = rw all
 
       -- an item that is not the last
-      more_beside : eqb r.next r.last ≡ false → Beside s (spare_in F st.home p k (Running r) from item) (stored F s k p r item)
+      more_beside : eqb r.next r.last ≡ false → Beside s (spare_in F st.home p k (Some r) from item) (stored F s k p r item)
       more_beside e =
           own_beside (stored F s k p r item)
           (subst (λ (b : Bool). Leaves F (not p.half) k (cond b 0 r.next) (cond b r.count (r.next + 1)) s (stored F s k p r item))
           (sym (fills_not e)) (written F lawful st s long ranged k known r runs item))
 
       -- the last, and valid
-      last_beside : eqb r.next r.last ≡ true → eqb (item_verdict F st.home s k p r item) accepted ≡ true → Beside s (spare_in F st.home p k (Running r) from item) (settled F (stored F s k p r item) k p r)
+      last_beside : eqb r.next r.last ≡ true → eqb (item_verdict F st.home s k p r item) accepted ≡ true → Beside s (spare_in F st.home p k (Some r) from item) (settled F (stored F s k p r item) k p r)
       unfolding settled
       last_beside e valid = own_beside (settled F (stored F s k p r item) k p r) (go r.partial refl)
         where
@@ -249,12 +247,12 @@ module _ (F : Form) (lawful : Lawful F) where
               (written F lawful st s long ranged k known r runs item))
 
     item_beside :
-        (u : Upload) → (plan_of st k).upload ≡ u → (from : Station) (now : ℕ) (item : Item)
+        (u : Option Run) → (plan_of st k).upload ≡ u → (from : Station) (now : ℕ) (item : Item)
         → Beside s (spare_in F st.home (plan_of st k) k u from item) (item_turned F st.home s k u (plan_of st k) from now item).store
     unfolding item_turned valid_item_turned
-    item_beside Idle e from now item = beside_same s (spare_in F st.home (plan_of st k) k Idle from item)
-    item_beside (Running r) e from now item =
-        let free = spare_in F st.home (plan_of st k) k (Running r) from item in
+    item_beside None e from now item = beside_same s (spare_in F st.home (plan_of st k) k None from item)
+    item_beside (Some r) e from now item =
+        let free = spare_in F st.home (plan_of st k) k (Some r) from item in
         let p = plan_of st k in
         either Left (not (same_station from (station_in r))) (λ t. beside_same s free)
         (λ own. either Left (not (eqb item.seq r.next)) (λ t. beside_same s free)
@@ -265,7 +263,7 @@ module _ (F : Form) (lawful : Lawful F) where
         (not-false (eqb (item_verdict F st.home s k p r item) accepted) valid)))))
       where
         Left : TurnAndStore → Type 0
-        Left t = Beside s (spare_in F st.home (plan_of st k) k (Running r) from item) t.store
+        Left t = Beside s (spare_in F st.home (plan_of st k) k (Some r) from item) t.store
 
   -- ---- every message
 

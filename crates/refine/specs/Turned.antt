@@ -1,5 +1,5 @@
 -- Each turn of one kind commutes with the view: COUNT, MISSION_WRITE_PARTIAL_LIST, ACK and the timer.
-use Rattle.std.specs.Prelude.{ℕ, ◌≡◌, List, [], ◌∷◌, Bool, true, ◌&&◌, length, eqb, ltb}
+use Rattle.std.specs.Prelude.{ℕ, ◌≡◌, List, [], ◌∷◌, Bool, true, ◌&&◌, length, eqb, ltb, Option, Some, None, Ok, Err}
 use Rattle.std.proofs.Math.Path.{refl, ap}
 use Rattle.std.proofs.Common.{sym, ◌∙◌, drop_of_length-le, le_of_eq}
 use Rattle.std.proofs.Math.Bool.{false, not}
@@ -13,11 +13,9 @@ use Rattle.rules.specs.Calls.{is_known}
 use Rattle.rules.specs.Step.{Stepped, Answer, silent, acks, requests, opens, on_count, part_ok, on_partial, on_ack, on_timer}
 use Rattle.rule_laws.specs.Tests.{either₂}
 use Rattle.plan.specs.declared.State.{State}
-use Rattle.plan.specs.declared.Plan.{Plan}
 use Rattle.plan.specs.declared.Run.{Run}
-use Rattle.plan.specs.declared.Upload.{Upload}
-use Rattle.plan.specs.declared.Upload.TheVariants.{Idle, Running}
 use Rattle.places.specs.Forms.{Store, Form, items_in, length_items}
+use Rattle.limits.specs.declared.Fault.TheVariants.{NoSpace, InvalidSequence, Denied, Cancelled}
 use Rattle.plan.specs.View.{plan_of, run_in, upload_in, view_in}
 use Rattle.upload.specs.declared.Say.{Say}
 use Rattle.upload.specs.declared.Say.TheVariants.{Silent, Ack, Ask}
@@ -36,15 +34,15 @@ module _ (F : Form) where
     pub answer : d.answer ≡ m.answer
 
   -- whose an upload is, as shown
-  pub others_shown : (from : Station) (s : Store) (half : Bool) (k : ℕ) (u : Upload) → is_others from (upload_in F s half k u) ≡ others_upload from u
+  pub others_shown : (from : Station) (s : Store) (half : Bool) (k : ℕ) (u : Option Run) → is_others from (upload_in F s half k u) ≡ others_upload from u
   unfolding is_others others_upload upload_in
-  others_shown from s half k Idle = refl
-  others_shown from s half k (Running r) = refl
+  others_shown from s half k None = refl
+  others_shown from s half k (Some r) = refl
 
-  own_shown : (from : Station) (s : Store) (half : Bool) (k : ℕ) (u : Upload) → is_own from (upload_in F s half k u) ≡ own_upload from u
+  own_shown : (from : Station) (s : Store) (half : Bool) (k : ℕ) (u : Option Run) → is_own from (upload_in F s half k u) ≡ own_upload from u
   unfolding is_own own_upload upload_in
-  own_shown from s half k Idle = refl
-  own_shown from s half k (Running r) = refl
+  own_shown from s half k None = refl
+  own_shown from s half k (Some r) = refl
 
   module _ (st : State) (s : Store) (three : length st.plans ≡ length kinds) (k : ℕ) (known : is_known k ≡ true) (to : Station) where
     abbrev pub Agrees : Turned → Stepped → Type 0
@@ -57,15 +55,15 @@ module _ (F : Form) where
     -- the upload ends
     pub ends : (say : Say) (a : Answer) → answer_of say to k ≡ a → Agrees (moves (ended (plan_of st k)) say) (record { model = record { shown = (view_in F st s).shown; uploads = set (view_in F st s).uploads k idle }; answer = a })
     unfolding upload_in
-    ends say a e = record { model = view_upload F st s three k Idle known; answer = e }
+    ends say a e = record { model = view_upload F st s three k None known; answer = e }
 
     -- an upload runs on
     pub runs :
         (r : Run) (say : Say) (a : Answer) → answer_of say to k ≡ a
-        → Agrees (moves (with_upload (plan_of st k) (Running r)) say)
+        → Agrees (moves (with_upload (plan_of st k) (Some r)) say)
         (record { model = record { shown = (view_in F st s).shown; uploads = set (view_in F st s).uploads k (running (run_in F s (not (plan_of st k).half) k r)) }; answer = a })
     unfolding upload_in
-    runs r say a e = record { model = view_upload F st s three k (Running r) known; answer = e }
+    runs r say a e = record { model = view_upload F st s three k (Some r) known; answer = e }
 
     -- the plan becomes empty
     pub empties :
@@ -100,9 +98,9 @@ module _ (F : Form) where
     unfolding count_turned on_count
     count_agrees now n =
         rw (upload_shown F st s k known, others_shown to s (not (plan_of st k).half) k (plan_of st k).upload)
-        (either₂ Agrees (others_upload to (plan_of st k).upload) (λ t. kept (Ack denied 0) (acks to denied k) refl)
-        (λ t. either₂ Agrees (ltb (size_of k) n) (λ t. ends (Ack no_space 0) (acks to no_space k) refl)
-        (λ t. either₂ Agrees (eqb n 0) (λ t. empties (Ack accepted 0) (acks to accepted k) refl)
+        (either₂ Agrees (others_upload to (plan_of st k).upload) (λ t. kept (Ack (Err Denied)) (acks to denied k) refl)
+        (λ t. either₂ Agrees (ltb (size_of k) n) (λ t. ends (Ack (Err NoSpace)) (acks to no_space k) refl)
+        (λ t. either₂ Agrees (eqb n 0) (λ t. empties (Ack (Ok 0)) (acks to accepted k) refl)
         (λ t. opened now (whole_task n)))))
 
     -- MISSION_WRITE_PARTIAL_LIST
@@ -110,8 +108,8 @@ module _ (F : Form) where
     unfolding part_turned on_partial
     part_agrees now start end =
         rw (upload_shown F st s k known, others_shown to s (not (plan_of st k).half) k (plan_of st k).upload, length_shown F st s k known)
-        (either₂ Agrees (others_upload to (plan_of st k).upload) (λ t. kept (Ack denied 0) (acks to denied k) refl)
-        (λ t. either₂ Agrees (not (part_ok (plan_of st k).len start end)) (λ t. ends (Ack invalid_sequence 0) (acks to invalid_sequence k) refl)
+        (either₂ Agrees (others_upload to (plan_of st k).upload) (λ t. kept (Ack (Err Denied)) (acks to denied k) refl)
+        (λ t. either₂ Agrees (not (part_ok (plan_of st k).len start end)) (λ t. ends (Ack (Err InvalidSequence)) (acks to invalid_sequence k) refl)
         (λ t. opened now (part_task (plan_of st k).len start end))))
 
     -- ACK
@@ -123,16 +121,16 @@ module _ (F : Form) where
 
   -- the timer: the reply goes to the upload's station
   timer_by :
-      (st : State) (s : Store) → length st.plans ≡ length kinds → (k : ℕ) → is_known k ≡ true → (now : ℕ) (u : Upload)
+      (st : State) (s : Store) → length st.plans ≡ length kinds → (k : ℕ) → is_known k ≡ true → (now : ℕ) (u : Option Run)
       → Agree (after_turn st s k (station_of u) (timer_turned u (plan_of st k) now)) (on_timer (upload_in F s (not (plan_of st k).half) k u) (view_in F st s) now k)
   unfolding timer_turned on_timer upload_in
-  timer_by st s three k known now Idle = kept st s three k known (station_of Idle) Silent silent refl
-  timer_by st s three k known now (Running r) =
-      let to = station_of (Running r) in
+  timer_by st s three k known now None = kept st s three k known (station_of None) Silent silent refl
+  timer_by st s three k known now (Some r) =
+      let to = station_of (Some r) in
       either₂ (Agrees st s three k known to) (ltb (elapsed now r.started) expiry_ms) (λ t. kept st s three k known to Silent silent refl)
       (λ t. either₂ (Agrees st s three k known to) (ltb r.repeats max_repeats)
       (λ t. runs st s three k known to (asked_again r now) (Ask r.next) (requests to r.next k) refl)
-      (λ t. ends st s three k known to (Ack cancelled 0) (acks to cancelled k) refl))
+      (λ t. ends st s three k known to (Ack (Err Cancelled)) (acks to cancelled k) refl))
 
   pub timer_agrees :
       (st : State) (s : Store) → length st.plans ≡ length kinds → (k : ℕ) → is_known k ≡ true → (now : ℕ)

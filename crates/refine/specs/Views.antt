@@ -1,5 +1,5 @@
 -- What the view shows of one kind, and how it changes with one plan.
-use Rattle.std.specs.Prelude.{ℕ, List, map, Bool, true, ◌&&◌, length, get_or, eqb}
+use Rattle.std.specs.Prelude.{ℕ, List, map, Bool, true, ◌&&◌, length, get_or, eqb, Option}
 use Rattle.std.proofs.Math.Path.{◌≡◌, refl}
 use Rattle.std.proofs.Common.{ap, ◌∙◌}
 use Rattle.std.proofs.Math.Bool.{false, not, cond}
@@ -12,7 +12,7 @@ use Rattle.rule_laws.specs.Kinds.{each_kind, known_below}
 use Rattle.rule_laws.specs.Lists.{at_set}
 use Rattle.plan.specs.declared.State.{State}
 use Rattle.plan.specs.declared.Plan.{Plan}
-use Rattle.plan.specs.declared.Upload.{Upload}
+use Rattle.plan.specs.declared.Run.{Run}
 use Rattle.places.specs.Forms.{Store, Form, length_items}
 use Rattle.plan.specs.View.{empty_plan, plan_of, plan_in, upload_in, view_in}
 use Rattle.upload.specs.Turns.{with_upload}
@@ -52,7 +52,7 @@ module _ (F : Form) where
 
     -- only the upload of one kind changes
     pub view_upload :
-        (k : ℕ) (u : Upload) → is_known k ≡ true
+        (k : ℕ) (u : Option Run) → is_known k ≡ true
         → view_in F (turned_state st k (with_upload (plan_of st k) u)) s
         ≡ record { shown = (view_in F st s).shown; uploads = set (view_in F st s).uploads k (upload_in F s (not (plan_of st k).half) k u) }
     unfolding view_in

@@ -2,7 +2,7 @@
 // kind are those of the place.
 #![tactic(auto)]
 
-ghost use Rattle.std.specs.Prelude.{◌≡◌, [], ◌∷◌, ◌+◌, ◌-◌, ◌≤◌, ◌<◌, length};
+ghost use Rattle.std.specs.Prelude.{◌≡◌, ◌+◌, ◌-◌, ◌≤◌, ◌<◌, length};
 ghost use Rattle.rules.specs.Limits.{rally, size_of, item_words, store_words};
 ghost use Rattle.rules.specs.Messages.{item_in};
 ghost use Rattle.rules.specs.Words.{words_of, item_of_words, last_word_of};
@@ -26,56 +26,43 @@ fn last_word(command: u16, frame: u8, autocontinue: u8) -> u32
     command as u32 + frame as u32 * FRAME_UNIT + autocontinue as u32 * AUTOCONTINUE_UNIT
 }
 
-// The item that eight words are, as one of a number and a kind, with its values.
-pub fn from_words(
-    param1: u32,
-    param2: u32,
-    param3: u32,
-    param4: u32,
-    x: u32,
-    y: u32,
-    z: u32,
-    last: u32,
-    kind: u8,
-    seq: u16,
-) -> Item
-    ensures { result ≡ item_for (item_of_words (param1 ∷ param2 ∷ param3 ∷ param4 ∷ x ∷ y ∷ z ∷ last ∷ []) kind seq) }
+// The item that eight words are, as one of a number and a kind.
+pub fn from_words(stored: [u32; ITEM_WORDS], kind: u8, seq: u16) -> Item
+    ensures { result ≡ item_for (item_of_words stored kind seq) }
 {
-    item::made(
-        param1,
-        param2,
-        param3,
-        param4,
-        x,
-        y,
-        z,
+    let [bits1, bits2, bits3, bits4, bits_x, bits_y, bits_z, last] = stored;
+    Item {
+        bits1,
+        bits2,
+        bits3,
+        bits4,
+        bits_x,
+        bits_y,
+        bits_z,
         seq,
-        (last % FRAME_UNIT) as u16,
-        (last / FRAME_UNIT % BYTE_VALUES) as u8,
-        (last / AUTOCONTINUE_UNIT % BYTE_VALUES) as u8,
+        command: (last % FRAME_UNIT) as u16,
+        frame: (last / FRAME_UNIT % BYTE_VALUES) as u8,
+        autocontinue: (last / AUTOCONTINUE_UNIT % BYTE_VALUES) as u8,
         kind,
-    )
+    }
 }
 
-// The same of eight words of a store.
-fn item_in(stored: &[u32], kind: u8, n: u16) -> Item
-    requires { item_words ≤ length stored.now }
-    ensures { result ≡ item_for (item_of_words stored.now kind n) }
+// The eight words from `at`.
+fn words_at(store: &[u32], at: usize) -> [u32; ITEM_WORDS]
+    requires { at + item_words ≤ length store.now }
+    ensures { result ≡ part store.now at item_words }
 {
-    from_words(
-        stored[0], stored[1], stored[2], stored[3], stored[4], stored[5], stored[6], stored[7],
-        kind, n,
-    )
+    let mut stored = [0; ITEM_WORDS];
+    stored.copy_from_slice(&store[at..at + ITEM_WORDS]);
+    stored
 }
 
-// The item with a number, with its values.
+// The item with a number.
 pub fn fetch(store: &[u32], kind: u8, half: bool, n: u16) -> Item
     requires { (store_words ≤ length store.now) × (kind ≤ rally) × (n < size_of kind) }
     ensures { result ≡ item_for (item_in (item_at words store.now half kind n)) }
 {
-    let at = place_at(kind, half, n);
-    let end = at + ITEM_WORDS;
-    item_in(&store[at..end], kind, n)
+    from_words(words_at(store, place_at(kind, half, n)), kind, n)
 }
 
 // The item becomes the one with a number, and is fetched from there as it was kept, with the number and the kind of the place; every other word of the store stays.
@@ -97,27 +84,13 @@ pub fn keep(store: &mut [u32], kind: u8, half: bool, n: u16, item: Item)
     put_item(store, place_at(kind, half, n), kept);
 }
 
-// The eight words from `at`.
-fn words_at(store: &[u32], at: usize) -> [u32; ITEM_WORDS]
-    requires { at + item_words ≤ length store.now }
-    ensures { result ≡ part store.now at item_words }
-{
-    let mut item = [0u32; ITEM_WORDS];
-    let mut i: usize = 0;
-    while i < ITEM_WORDS {
-        item[i] = store[at + i];
-        i += 1;
-    }
-    item
-}
-
 // The item with a number goes, as it stands in a half, to its place in the other half.
 fn carry(store: &mut [u32], kind: u8, half: bool, n: u16)
     requires { (store_words ≤ length store.old) × (kind ≤ rally) × (n < size_of kind) }
     ensures { store.new ≡ carried_at words store.old half kind n }
 {
-    let item = words_at(store, place_at(kind, half, n));
-    put_item(store, place_at(kind, !half, n), item);
+    let from = place_at(kind, half, n);
+    store.copy_within(from..from + ITEM_WORDS, place_at(kind, !half, n));
 }
 
 // The items from number `low` on and below `high` do.
@@ -125,9 +98,7 @@ pub fn carry_items(store: &mut [u32], kind: u8, half: bool, low: u16, high: u16)
     requires { (store_words ≤ length store.old) × (kind ≤ rally) × (low ≤ high) × (high ≤ size_of kind) }
     ensures { store.new ≡ carried words store.old half kind low (high - low) }
 {
-    let mut i = low;
-    while i < high {
+    for i in low..high {
         carry(store, kind, half, i);
-        i += 1;
     }
 }

@@ -1,10 +1,5 @@
--- The loop's invariant: the items below i are carried.
-use mathlib.Core.Path.{◌≡◌, refl, ◌∙◌, ap}
-use mathlib.Core.Bool.{Bool}
-use Prim.Native.Nat.{ℕ, suc, ◌≤◌, ◌-◌, ◌+◌}
-use native.Mathlib.Omega.{arith}
-use borrow.Author.Rules.{rules}
-use lib.ListN.{length}
+-- The items below i are carried.
+use Rattle.std.proofs.Common.{◌≡◌, ◌∙◌, ap, Bool, ℕ, suc, ◌≤◌, ◌-◌, ◌+◌, arith, length}
 use Rattle.rules.specs.Limits.{rally, size_of, store_words}
 use Rattle.places.specs.Forms.{Store, words}
 use Rattle.places.proofs.Lawful.{words_lawful}
@@ -28,20 +23,9 @@ carried_long store half kind low i long known from upto = (carried_leaves words 
 pub loop-i-init : goal.loop-i-init
 unfolding carried
 loop-i-init c = let a = c.args in
-    (omega arith, omega arith, refl, ap (carried words a.store.now a.half a.kind a.low) (let e : 0 ≡ a.low - a.low = omega arith in e))
-
-pub loop-i-smaller : goal.loop-i-smaller
-loop-i-smaller c = omega arith
+    ap (carried words a.store.now a.half a.kind a.low) (let e : 0 ≡ a.low - a.low = omega arith in e)
 
 pub loop-i-preserved : goal.loop-i-preserved
 loop-i-preserved c = let a = c.args in
     let l = c.loop-i in
-    let after = c.carry.new.store in
-    let next : after ≡ carried words a.store.now a.half a.kind a.low (l.i + 1 - a.low) =
-    one_more a.store.now l.store after a.half a.kind a.low l.i l.invariant.0 l.invariant.3 c.carry.ensures in
-    (omega arith, omega arith, ap length next ∙ carried_long a.store.now a.half a.kind a.low (l.i + 1) (search rules) (search rules) (omega arith) (omega arith), next)
-
-pub returns : goal.returns
-returns c = let a = c.args in
-    let l = c.loop-i in
-    l.invariant.3 ∙ ap (λ (k : ℕ). carried words a.store.now a.half a.kind a.low (k - a.low)) (let e : l.i ≡ a.high = omega arith in e)
+    one_more a.store.now l.store _ a.half a.kind a.low l.i (omega arith) l.invariant c.carry.ensures

@@ -5,7 +5,7 @@ use Rattle.rules.specs.Layouts.{layout_of, pack}
 use Rattle.rules.specs.Messages.{station, item_int, encode}
 use Rattle.rule_laws.specs.Fitting.{Fits}
 use Rattle.item.specs.Patterns.{patterns}
-use Rattle.fields.specs.Packed.{one_byte}
+use Rattle.fields.specs.Packed.{one_byte, two_bytes, four_bytes}
 use borrow.Author.Rules.{rules}
 use Rattle.item.proofs.payload.item_bytes.Goals as goal
 
@@ -24,6 +24,6 @@ returns c =
     let autocontinue = one_byte a.item.autocontinue fit.4 in
     let kind = one_byte a.item.kind fit.5 in
     record {
-      all = λ i. c.bytes32-a.ensures i ++ (c.bytes32-b.ensures i ++ (c.bytes32-c.ensures i ++ (c.bytes32-d.ensures i ++ (c.bytes32-x.ensures i ++ (c.bytes32-y.ensures i ++ (c.bytes32-z.ensures i ++ (c.bytes16-seq.ensures i ++ (c.bytes16-command.ensures i ++ (system i ++ (component i ++ (frame i ++ (current i ++ (autocontinue i ++ (kind i ++ []))))))))))))));
+      all = λ i. four_bytes a.item.bits1 c.bytes32-a.ensures i ++ (four_bytes a.item.bits2 c.bytes32-b.ensures i ++ (four_bytes a.item.bits3 c.bytes32-c.ensures i ++ (four_bytes a.item.bits4 c.bytes32-d.ensures i ++ (four_bytes a.item.bits_x c.bytes32-x.ensures i ++ (four_bytes a.item.bits_y c.bytes32-y.ensures i ++ (four_bytes a.item.bits_z c.bytes32-z.ensures i ++ (two_bytes a.item.seq c.bytes16-seq.ensures i ++ (two_bytes a.item.command c.bytes16-command.ensures i ++ (system i ++ (component i ++ (frame i ++ (current i ++ (autocontinue i ++ (kind i ++ []))))))))))))));
       fits = fits;
     }
