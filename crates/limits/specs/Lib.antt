@@ -1,2 +1,3 @@
 -- What the contracts of the limits cite beside the rules.
 pub mod Codes
+pub mod Kinds

@@ -4,8 +4,9 @@
 
 ghost use Rattle.std.specs.Prelude.{◌≡◌};
 ghost use Rattle.limits.specs.Codes.{fault_code, refusal_code};
+ghost use Rattle.limits.specs.Kinds.{kind_number, IsKindOf};
 
-// The kinds of plan; CLEAR_ALL may also speak of every kind.
+// The kinds of plan as numbers of a message; CLEAR_ALL may also speak of every kind.
 pub const FLIGHT: u8 = 0;
 
 pub const FENCE: u8 = 1;
@@ -13,6 +14,41 @@ pub const FENCE: u8 = 1;
 pub const RALLY: u8 = 2;
 
 pub const EVERY_KIND: u8 = 255;
+
+// A kind of plan.
+#[derive(Clone, Copy, PartialEq, Eq)]
+pub enum Kind {
+    Flight = 0,
+    Fence = 1,
+    Rally = 2,
+}
+
+impl Kind {
+    pub fn number(self) -> u8
+        ensures { result ≡ kind_number self }
+    {
+        self as u8
+    }
+}
+
+// A number that is no kind's.
+#[derive(Clone, Copy, PartialEq, Eq)]
+pub struct NoKind;
+
+impl TryFrom<u8> for Kind {
+    type Error = NoKind;
+
+    ghost try_from_gives = { IsKindOf };
+
+    fn try_from(n: u8) -> Result<Kind, NoKind> {
+        match n {
+            FLIGHT => Ok(Kind::Flight),
+            FENCE => Ok(Kind::Fence),
+            RALLY => Ok(Kind::Rally),
+            _ => Err(NoKind),
+        }
+    }
+}
 
 // The results of an ACK.
 pub const ACCEPTED: u8 = 0;
