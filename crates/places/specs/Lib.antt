@@ -5,3 +5,4 @@ pub mod Places
 pub mod Writes
 pub mod Carried
 pub mod Stored
+pub mod KindItems
