@@ -1,5 +1,6 @@
 -- The search as the code holds it, jump after jump.
 use Rattle.std.specs.Prelude.{ℕ, zero, suc, ◌+◌, ◌≡◌, refl, List, Bool, cond, get_or, set, ℤ, pos, negsuc}
+use Rattle.std.specs.Option.{option_map_or}
 use Rattle.std.proofs.Common.{sym, ap, ◌∙◌, arith}
 use Rattle.rules.specs.Payload.{Bytes}
 use Rattle.rules.specs.Messages.{Item}
@@ -8,15 +9,16 @@ use Rattle.rules.specs.NextCommand as rules
 use Rattle.plan_search.specs.declared.Met.{Met}
 use Rattle.plan_search.specs.declared.Met.TheVariants.{Ends, Stands, Follows}
 use Rattle.next_command.specs.declared.find.Found.{Found}
+use Rattle.next_command.specs.declared.find.Stand.{Stand}
 use Rattle.plan_search.specs.Orders.{order_of, order_for}
 use Rattle.plan_search.specs.Meeting.{met_for, is_counted}
 
 -- what a search finds
-unfoldable pub found_of : Found → rules.Found
-found_of f = cond f.stands (found f.n f.counts (order_of f.command)) (nowhere (order_of f.command))
+abbrev pub found_of : Found → rules.Found
+found_of f = option_map_or (λ (s : Stand). found s.n s.counts (order_of f.command)) f.stand (nowhere (order_of f.command))
 
 -- what it finds where no further jump may be followed
-unfoldable pub settled_as : Met → (counts : List ℕ) → rules.Found
+abbrev pub settled_as : Met → (counts : List ℕ) → rules.Found
 settled_as (Ends c) counts = nowhere (order_of c)
 settled_as (Stands n c) counts = found n counts (order_of c)
 settled_as (Follows j target counted) counts = nowhere stuck
@@ -33,7 +35,7 @@ runs_are (negsuc r) c = refl
 -- the end of a search
 pub settles_last : (home : Bool) (items : List Bytes) (counts : List ℕ) (n : ℕ) (met : Met) → met ≡ met_for (search_from home items counts n)
     → settled_as met counts ≡ rules.search home zero items counts n
-unfolding settled_as rules.search settle
+unfolding rules.search settle
 settles_last home items counts n met e = ap (λ (m : Met). settled_as m counts) e ∙ go (search_from home items counts n)
   where
     go : (m : rules.Met) → settled_as (met_for m) counts ≡ settle m counts (λ (j : ℕ) (item : Item). nowhere stuck)
@@ -44,7 +46,7 @@ settles_last home items counts n met e = ap (λ (m : Met). settled_as m counts) 
 -- what ends a search earlier: everything but a jump
 pub settles_sooner : (home : Bool) (left : ℕ) (items : List Bytes) (counts : List ℕ) (n : ℕ) (met : Met) → met ≡ met_for (search_from home items counts n)
     → ((j target : ℕ) (counted : Bool) → met ≡ Follows j target counted → ⊥) → settled_as met counts ≡ rules.search home (suc left) items counts n
-unfolding settled_as rules.search settle
+unfolding rules.search settle
 settles_sooner home left items counts n met e none = ap (λ (m : Met). settled_as m counts) e ∙ go (search_from home items counts n) e
   where
     go : (m : rules.Met) → met ≡ met_for m

@@ -11,9 +11,10 @@ ghost use Rattle.rules.specs.NextCommand.{search};
 ghost use Rattle.places.specs.Forms.{words, items_in};
 ghost use Rattle.next_command.specs.Finding.{found_of};
 
-pub use find::Found;
+pub use find::{Found, Stand};
 use limits::JUMP_COUNTS;
 use plan::{Plan, flown};
+use plan_search::Flight;
 
 // The item at which the search would begin, if item 0 were like any other.
 fn start(current: u16, begun: bool) -> u16
@@ -39,5 +40,11 @@ pub fn next(
     ensures { found_of result ≡ search home max_followed (items_in words store.now plan.half flight plan.len) counts (rules.flown home (cond begun (current + 1) current)) }
 {
     let from = flown(home, start(current, begun));
-    find::find(home, store, plan.half, plan.len, counts, from)
+    let plan = Flight {
+        home,
+        store,
+        half: plan.half,
+        len: plan.len,
+    };
+    find::find(plan, counts, from)
 }

@@ -1,5 +1,5 @@
 -- What a search meets, as the code holds it, and one item of it; the rules' `meets` is a look at each item in turn.
-use Rattle.std.specs.Prelude.{ℕ, suc, ◌<◌, ◌≡◌, refl, List, [], ◌∷◌, Bool, true, false, not, cond, get_or, ℤ, pos, negsuc, eqb}
+use Rattle.std.specs.Prelude.{ℕ, suc, ◌<◌, ◌≡◌, refl, List, [], ◌∷◌, Bool, true, false, not, cond, get_or, ℤ, pos, negsuc, eqb, Option, None, Some, unwrap_or}
 use Rattle.std.proofs.Common.{arith, sym, subst, true≢false, eqb-true}
 use Rattle.std.proofs.lemmas.Bool.{not-false}
 use Rattle.rules.specs.Limits.{flight, max_runs, max_jumps, accepted}
@@ -13,8 +13,6 @@ use Rattle.rule_laws.specs.Valid.{Repeats, valid_jump, target_below, runs_below}
 use Rattle.command.specs.declared.Command.TheVariants.{Stuck}
 use Rattle.plan_search.specs.declared.Met.{Met}
 use Rattle.plan_search.specs.declared.Met.TheVariants.{Ends, Stands, Follows}
-use Rattle.plan_search.specs.declared.Look.{Look}
-use Rattle.plan_search.specs.declared.Look.TheVariants.{Meets, PassedOver}
 use Rattle.plan_search.specs.Orders.{command_for}
 
 -- "c goes up by one unless r is -1"
@@ -27,31 +25,27 @@ met_for (ends c) = Ends (command_for c)
 met_for (stands n item) = Stands n (command_for (command_of n item))
 met_for (follows j item) = Follows j (target_of item) (is_counted (repeat_of item))
 
--- what jump number j is to a search, with a repeat and a target, after some runs
-unfoldable pub jump_as : ℤ → (target j runs : ℕ) → Look
-jump_as repeat target j runs = cond (passed_over repeat runs) PassedOver (Meets (Follows j target (is_counted repeat)))
+-- what a search meets at jump number j, with a repeat and a target, after some runs: nothing where it is passed over
+unfoldable pub jump_as : ℤ → (target j runs : ℕ) → Option Met
+jump_as repeat target j runs = cond (passed_over repeat runs) None (Some (Follows j target (is_counted repeat)))
 
--- what an item is to a search
-unfoldable pub look_as : (home : Bool) (size : ℕ) (counts : List ℕ) (n j : ℕ) → Item → Look
+-- what a search meets at an item
+unfoldable pub look_as : (home : Bool) (size : ℕ) (counts : List ℕ) (n j : ℕ) → Item → Option Met
 look_as home size counts n j item =
-    cond (not (eqb (fault home flight size n j item) accepted)) (Meets (Ends Stuck))
-    (cond (not (is_jump item)) (Meets (Stands n (command_for (command_of n item))))
+    cond (not (eqb (fault home flight size n j item) accepted)) (Some (Ends Stuck))
+    (cond (not (is_jump item)) (Some (Stands n (command_for (command_of n item))))
     (jump_as (repeat_of item) (target_of item) j (get_or counts j 0)))
 
-abbrev pub onwards : Look → Met → Met
-onwards (Meets met) rest = met
-onwards PassedOver rest = rest
-
 pub meets_one : (home : Bool) (size : ℕ) (counts : List ℕ) (b : Bytes) (rest : List Bytes) (n j : ℕ)
-    → met_for (meets home size counts (b ∷ rest) n j) ≡ onwards (look_as home size counts n j (item_in b)) (met_for (meets home size counts rest (suc n) (suc j)))
+    → met_for (meets home size counts (b ∷ rest) n j) ≡ unwrap_or (look_as home size counts n j (item_in b)) (met_for (meets home size counts rest (suc n) (suc j)))
 unfolding meets look_as jump_as
 meets_one home size counts b rest n j =
     go (not (eqb (fault home flight size n j (item_in b)) accepted)) (not (is_jump (item_in b))) (passed_over (repeat_of (item_in b)) (get_or counts j 0))
   where
     go : (broken other over : Bool)
         → met_for (cond broken (ends rules.stuck) (cond other (stands n (item_in b)) (cond over (meets home size counts rest (suc n) (suc j)) (follows j (item_in b)))))
-        ≡ onwards (cond broken (Meets (Ends Stuck)) (cond other (Meets (Stands n (command_for (command_of n (item_in b)))))
-        (cond over PassedOver (Meets (Follows j (target_of (item_in b)) (is_counted (repeat_of (item_in b))))))))
+        ≡ unwrap_or (cond broken (Some (Ends Stuck)) (cond other (Some (Stands n (command_for (command_of n (item_in b)))))
+        (cond over None (Some (Follows j (target_of (item_in b)) (is_counted (repeat_of (item_in b))))))))
         (met_for (meets home size counts rest (suc n) (suc j)))
     go true other over = refl
     go false true over = refl
@@ -107,12 +101,12 @@ follows_known home size counts (b ∷ rest) n i {j} {t} {c} e =
     go false false false eb eo ev later h = same_followed h (follows_one home size counts n i (item_in b) eb eo ev)
 
 -- a jump that is passed over is one of the plan's fifteen
-pub over_room : (home : Bool) (size : ℕ) (counts : List ℕ) (n j : ℕ) (i : Item) → look_as home size counts n j i ≡ PassedOver → j < max_jumps
+pub over_room : (home : Bool) (size : ℕ) (counts : List ℕ) (n j : ℕ) (i : Item) → look_as home size counts n j i ≡ None → j < max_jumps
 unfolding look_as
 over_room home size counts n j i = go (eqb (fault home flight size n j i) accepted) (is_jump i) refl refl
   where
     go : (fine is : Bool) → eqb (fault home flight size n j i) accepted ≡ fine → is_jump i ≡ is
-        → cond (not fine) (Meets (Ends Stuck)) (cond (not is) (Meets (Stands n (command_for (command_of n i)))) (jump_as (repeat_of i) (target_of i) j (get_or counts j 0))) ≡ PassedOver
+        → cond (not fine) (Some (Ends Stuck)) (cond (not is) (Some (Stands n (command_for (command_of n i)))) (jump_as (repeat_of i) (target_of i) j (get_or counts j 0))) ≡ None
         → j < max_jumps
     go false is ef ei h = absurd (let z : ◌≡◌ {A = ℕ} 0 1 = cc in omega arith)
     go true false ef ei h = absurd (let z : ◌≡◌ {A = ℕ} 0 1 = cc in omega arith)

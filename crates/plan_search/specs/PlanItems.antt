@@ -4,7 +4,13 @@ use Rattle.std.proofs.Common.{arith, not-suc-le-zero, sym, ap, ◌∙◌, drop-c
 use Rattle.std.proofs.Math.Decide.{dec_lt}
 use Rattle.std.proofs.lemmas.List.{take-append-le}
 use Rattle.rules.specs.Payload.{Bytes}
+use Rattle.rules.specs.Limits.{flight}
 use Rattle.places.specs.Forms.{Store, words, item_at, items_in, length_items, items_at}
+use Rattle.plan_search.specs.declared.flight.Flight.{Flight}
+
+-- the items of the flight plan
+abbrev pub flight_items : Flight → List Bytes
+flight_items p = items_in words p.store.now p.half flight p.len
 
 pub items_from : (store : Store) (half : Bool) (kind len n : ℕ) → n < len
     → drop n (items_in words store half kind len) ≡ item_at words store half kind n ∷ drop (suc n) (items_in words store half kind len)

@@ -2,17 +2,21 @@
 // passed over.
 #![tactic(auto)]
 
-ghost use Rattle.std.specs.Prelude.{◌≡◌, ◌≤◌, ◌<◌, length, drop};
-ghost use Rattle.rules.specs.Limits.{flight, size_of, store_words};
+mod flight;
+
+ghost use Rattle.std.specs.Prelude.{◌≡◌, ◌≤◌, ◌<◌, drop};
+ghost use Rattle.rules.specs.Limits.{flight, size_of};
 ghost use Rattle.rules.specs.Messages.{item_in};
 ghost use Rattle.rules.specs.NextCommand.{command_of, meets, search_from};
 ghost use Rattle.item.specs.Patterns.{item_for, patterns};
-ghost use Rattle.places.specs.Forms.{words, item_at, items_in};
+ghost use Rattle.places.specs.Forms.{words, item_at};
+ghost use Rattle.plan_search.specs.PlanItems.{flight_items};
 ghost use Rattle.plan_search.specs.Orders.{command_for};
 ghost use Rattle.rule_laws.specs.Valid.{ServoFits};
 ghost use Rattle.plan_search.specs.Meeting.{met_for, look_as, jump_as};
 
 use command::Command;
+pub use flight::Flight;
 use item::Item;
 use limits::{ACCEPTED, CHANGE_SPEED, DELAY, DISTANCE, FLIGHT, JUMP_COUNTS, SET_SERVO, YAW};
 
@@ -27,21 +31,13 @@ pub enum Met {
     Follows(u16, u16, bool),
 }
 
-// What one item is to a search.
-#[derive(Clone, Copy)]
-enum Look {
-    Meets(Met),
-    PassedOver,
-}
-
 // The answer for item n, which is no jump.
 fn command_of(n: u16, item: Item) -> Command
     requires item_value { item ≡ item_for (patterns item) }
     requires servo_fits { ServoFits (patterns item) }
     ensures { result ≡ command_for (command_of n (patterns item)) }
 {
-    let command = item.command;
-    match command {
+    match item.command {
         DELAY => Command::Wait(n, item.param1),
         DISTANCE => Command::Near(n, item.param1),
         YAW => Command::Turn(n, item.param1),
@@ -51,82 +47,59 @@ fn command_of(n: u16, item: Item) -> Command
     }
 }
 
-// Jump number j with a repeat and a target, after some runs. Only -1 is below 0: it is followed for ever, and not counted.
-fn jump_look(repeat: i32, target: u16, j: u16, runs: u16) -> Look
+// Jump number j with a repeat and a target, after some runs; None where it is passed over. Only -1 is below 0: it is followed for ever,
+// and not counted.
+fn jump_look(repeat: i32, target: u16, j: u16, runs: u16) -> Option<Met>
     ensures { result ≡ jump_as repeat target j runs }
 {
     if repeat < 0 {
-        return Look::Meets(Met::Follows(j, target, false));
+        return Some(Met::Follows(j, target, false));
     }
     if repeat <= runs as i32 {
-        return Look::PassedOver;
+        return None;
     }
-    Look::Meets(Met::Follows(j, target, true))
+    Some(Met::Follows(j, target, true))
 }
 
-// Item n of a plan of len items, with j jumps before it.
-fn look_at(
-    home: bool,
-    store: &[u32],
-    half: bool,
-    len: u16,
-    counts: [u16; JUMP_COUNTS],
-    n: u16,
-    j: u16,
-) -> Look
-    requires { (store_words ≤ length store.now) × (len ≤ size_of flight) × (n < len) }
-    ensures { result ≡ look_as home len counts n j (item_in (item_at words store.now half flight n)) }
-{
-    let item = storage::fetch(store, FLIGHT, half, n);
-    if item_rules::verdict(home, item, FLIGHT, len, n, j) != ACCEPTED {
-        return Look::Meets(Met::Ends(Command::Stuck));
-    }
-    if !item::is_jump(item) {
-        return Look::Meets(Met::Stands(n, command_of(n, item)));
-    }
-    let at = j as usize;
-    let runs = counts[at];
-    jump_look(item::repeat_of(item), item::number1(item) as u16, j, runs)
-}
-
-// From item n on, with j jumps before it.
-fn scan(
-    home: bool,
-    store: &[u32],
-    half: bool,
-    len: u16,
-    counts: [u16; JUMP_COUNTS],
-    from: u16,
-    before: u16,
-) -> Met
-    requires { (store_words ≤ length store.now) × (len ≤ size_of flight) }
-    ensures { result ≡ met_for (meets home len counts (drop from (items_in words store.now half flight len)) from before) }
-{
-    let mut n = from;
-    let mut j = before;
-    while n < len {
-        match look_at(home, store, half, len, counts, n, j) {
-            Look::Meets(met) => return met,
-            Look::PassedOver => {}
+impl Flight<'_> {
+    // Item n with j jumps before it; None where it is a jump that is passed over.
+    fn look_at(self, counts: [u16; JUMP_COUNTS], n: u16, j: u16) -> Option<Met>
+        requires { n < self.len }
+        ensures { result ≡ look_as self.entry.home self.entry.len counts n j (item_in (item_at words self.entry.store.now self.entry.half flight n)) }
+    {
+        let item = storage::fetch(self.store, FLIGHT, self.half, n);
+        if item_rules::verdict(self.home, item, FLIGHT, self.len, n, j) != ACCEPTED {
+            return Some(Met::Ends(Command::Stuck));
         }
-        n += 1;
-        j += 1;
+        if !item::is_jump(item) {
+            return Some(Met::Stands(n, command_of(n, item)));
+        }
+        jump_look(
+            item::repeat_of(item),
+            item::number1(item) as u16,
+            j,
+            counts[j as usize],
+        )
     }
-    Met::Ends(Command::Finished)
-}
 
-// What a search from item n meets, where item 0 may be home.
-pub fn meet(
-    home: bool,
-    store: &[u32],
-    half: bool,
-    len: u16,
-    counts: [u16; JUMP_COUNTS],
-    n: u16,
-) -> Met
-    requires { (store_words ≤ length store.now) × (len ≤ size_of flight) × (n ≤ size_of flight) }
-    ensures { result ≡ met_for (search_from home (items_in words store.now half flight len) counts n) }
-{
-    let before = places::jumps(store, FLIGHT, half, n);
-    scan(home, store, half, len, counts, n, before)
+    // From item n on, with j jumps before it.
+    fn scan(self, counts: [u16; JUMP_COUNTS], from: u16, before: u16) -> Met
+        ensures { result ≡ met_for (meets self.entry.home self.entry.len counts (drop from (flight_items self.entry)) from before) }
+    {
+        for n in from..self.len {
+            if let Some(met) = self.look_at(counts, n, before + (n - from)) {
+                return met;
+            }
+        }
+        Met::Ends(Command::Finished)
+    }
+
+    // What a search from item n meets.
+    pub fn meet(self, counts: [u16; JUMP_COUNTS], n: u16) -> Met
+        requires { n ≤ size_of flight }
+        ensures { result ≡ met_for (search_from self.entry.home (flight_items self.entry) counts n) }
+    {
+        let before = places::jumps(self.store, FLIGHT, self.half, n);
+        self.scan(counts, n, before)
+    }
 }

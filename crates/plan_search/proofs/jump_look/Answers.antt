@@ -11,15 +11,15 @@ use mir.ValLaws.{to_z_pos}
 use borrow.Author.Tests.{le-ltb}
 use Rattle.rules.specs.NextCommand.{passed_over}
 use Rattle.values.specs.Integers.{back, back_is}
+use Rattle.plan_search.specs.declared.Met.{Met}
 use Rattle.plan_search.specs.declared.Met.TheVariants.{Follows}
-use Rattle.plan_search.specs.declared.Look.{Look}
-use Rattle.plan_search.specs.declared.Look.TheVariants.{Meets, PassedOver}
+use Rattle.std.specs.Prelude.{Option, None, Some}
 use Rattle.plan_search.specs.Meeting.{is_counted, jump_as}
 use Rattle.plan_search.proofs.jump_look.Goals as goal
 
 module _ (repeat : ℤ) (f : SFits w32 repeat) (target j runs : ℕ) (small : runs < 65536) where
-  abbrev chosen : Bool → Bool → Look
-  chosen below over = cond below (Meets (Follows j target false)) (cond over PassedOver (Meets (Follows j target true)))
+  abbrev chosen : Bool → Bool → Option Met
+  chosen below over = cond below (Some (Follows j target false)) (cond over None (Some (Follows j target true)))
 
   by_sign : (v : ℤ) → chosen (lt_z v (pos 0)) (le_z v (pos runs)) ≡ jump_as v target j runs
   unfolding jump_as passed_over is_counted

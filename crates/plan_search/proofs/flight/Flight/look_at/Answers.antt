@@ -21,18 +21,18 @@ use Rattle.item.specs.declared.Item.{Item}
 use Rattle.item.specs.Patterns.{item_for, patterns, patterns_of, values_of}
 use Rattle.command.specs.declared.Command.{Command}
 use Rattle.command.specs.declared.Command.TheVariants.{Stuck}
+use Rattle.plan_search.specs.declared.Met.{Met}
 use Rattle.plan_search.specs.declared.Met.TheVariants.{Ends, Stands}
-use Rattle.plan_search.specs.declared.Look.{Look}
-use Rattle.plan_search.specs.declared.Look.TheVariants.{Meets}
+use Rattle.std.specs.Prelude.{Option, Some}
 use Rattle.plan_search.specs.Orders.{command_for}
 use Rattle.plan_search.specs.Meeting.{look_as, jump_as}
-use Rattle.plan_search.proofs.look_at.Goals as goal
+use Rattle.plan_search.proofs.flight.Flight.look_at.Goals as goal
 
 module _ (home : Bool) (size : ℕ) (counts : List ℕ) (n j : ℕ) (item : Item) (i : rules.Item) (is : item ≡ item_for i) (v : ℕ) (ev : v ≡ fault home flight size n j (patterns item)) where
   judged : v ≡ fault home flight size n j i
   judged = ev ∙ ap (fault home flight size n j) (patterns_of is)
 
-  breaks : (v ≡ 0 → ⊥) → Meets (Ends Stuck) ≡ look_as home size counts n j i
+  breaks : (v ≡ 0 → ⊥) → Some (Ends Stuck) ≡ look_as home size counts n j i
   unfolding look_as
   breaks bad = rw (← judged, ne_eqb v accepted bad)
 
@@ -47,7 +47,7 @@ module _ (home : Bool) (size : ℕ) (counts : List ℕ) (n j : ℕ) (item : Item
       jumps : b ≡ is_jump i
       jumps = eb ∙ ap is_jump (patterns_of is)
 
-      stands : (command : Command) → not b ≡ true → command ≡ command_for (command_of n (patterns item)) → Meets (Stands n command) ≡ look_as home size counts n j i
+      stands : (command : Command) → not b ≡ true → command ≡ command_for (command_of n (patterns item)) → Some (Stands n command) ≡ look_as home size counts n j i
       unfolding look_as
       stands command other ec =
           rw (eq-eqb (fault home flight size n j i) accepted fine, ← jumps, other, ec, patterns_of is)
@@ -66,7 +66,7 @@ module _ (home : Bool) (size : ℕ) (counts : List ℕ) (n j : ℕ) (item : Item
           target_fits : size < 65536 → t < 65536
           target_fits few = omega (arith, target_is, target_below home size n (whole_of (float i.param1)) valid.target)
 
-          follows : (repeat : ℤ) (r : Look) → SFits w32 repeat → repeat ≡ repeat_of (patterns item) → r ≡ jump_as (back repeat) t j (get_or counts j 0) → r ≡ look_as home size counts n j i
+          follows : (repeat : ℤ) (r : Option Met) → SFits w32 repeat → repeat ≡ repeat_of (patterns item) → r ≡ jump_as (back repeat) t j (get_or counts j 0) → r ≡ look_as home size counts n j i
           unfolding look_as
           follows repeat r f ew er =
               er
@@ -77,8 +77,8 @@ module _ (home : Bool) (size : ℕ) (counts : List ℕ) (n j : ℕ) (item : Item
 pub verdict-requires : goal.verdict-requires
 verdict-requires c = values_of c.fetch-item.ensures
 
-pub bounds-counts-at : goal.bounds-counts-at
-bounds-counts-at c = room _ _ [] _ _ _ _ c.fetch-item.ensures _ c.verdict.ensures c.if-verdict-ne-ACCEPTED.false _ c.is_jump.ensures (ap not c.if-not-is_jump.false)
+pub bounds-counts-j : goal.bounds-counts-j
+bounds-counts-j c = room _ _ [] _ _ _ _ c.fetch-item.ensures _ c.verdict.ensures c.if-verdict-ne-ACCEPTED.false _ c.is_jump.ensures (ap not c.if-not-is_jump.false)
 
 pub returns-then-verdict-ne-ACCEPTED : goal.returns-then-verdict-ne-ACCEPTED
 returns-then-verdict-ne-ACCEPTED c = breaks _ _ _ _ _ _ _ c.fetch-item.ensures _ c.verdict.ensures c.if-verdict-ne-ACCEPTED.true

@@ -15,7 +15,7 @@ use Rattle.places.specs.Forms.{Store, words, items_in, length_items}
 use Rattle.plan_search.specs.declared.Met.{Met}
 use Rattle.plan_search.specs.PlanItems.{items_until}
 use Rattle.plan_search.specs.Meeting.{met_for}
-use Rattle.plan_search.proofs.meet.Goals as goal
+use Rattle.plan_search.proofs.flight.Flight.meet.Goals as goal
 
 module _ (home : Bool) (store : Store) (half : Bool) (len : ℕ) (counts : List ℕ) (n before : ℕ) (eb : before ≡ jumps_among (items_in words store half flight n)) where
   abbrev items : List Bytes

@@ -1,4 +1,4 @@
-use Prim.Native.Nat.{ℕ, ◌-◌}
+use Prim.Native.Nat.{ℕ, ◌+◌, ◌-◌, ◌<◌}
 use mathlib.Core.Path.{◌≡◌}
 use mathlib.Core.List.{List}
 use mathlib.Core.Bool.{Bool}
@@ -8,14 +8,17 @@ use Rattle.rules.specs.NextCommand.{meets}
 use Rattle.places.specs.Forms.{Store, words, items_in}
 use Rattle.plan_search.specs.declared.Met.{Met}
 use Rattle.plan_search.specs.Meeting.{met_for}
-use Rattle.plan_search.proofs.scan.Given as goal
+use Rattle.plan_search.proofs.flight.Flight.scan.Given as goal
 
 -- what is met from item n on
 abbrev pub met_from : Bool → Store → Bool → (len : ℕ) (counts : List ℕ) (n j : ℕ) → Met
 met_from home store half len counts n j = met_for (meets home len counts (drop n (items_in words store half flight len)) n j)
 
 abbrev pub invariant-loop-n : goal.invariant-loop-n
-invariant-loop-n l = met_from l.home l.store l.half l.len l.counts l.from l.before ≡ met_from l.home l.store l.half l.len l.counts l.n l.j
-
-abbrev pub decreases-loop-n : goal.decreases-loop-n
-decreases-loop-n l = l.len - l.n
+invariant-loop-n l =
+    let s = l.self in
+    let j = l.before + (l.n - l.from) in
+    record {
+      same : met_from s.home s.store.now s.half s.len l.counts l.from l.before ≡ met_from s.home s.store.now s.half s.len l.counts l.n j;
+      few : j < 65536;
+    }
