@@ -1,12 +1,11 @@
 // Payloads of 1 to 300 bytes, none of them zero, read and written again: missing bytes are zero, bytes past the full length are ignored.
-use crate::messages::{BEFORE, BUFFER, written};
+use crate::messages::{BEFORE, BUFFER, own_bytes, written};
 use crate::test_payloads::LONGEST;
 
 // Without zeros the first bytes are written as they are, up to the full length, and the buffer past them stays.
 fn agrees(id: u32, payload: &[u8], full: usize) -> bool {
     let mut bytes = [BEFORE; BUFFER];
-    let got = wire::receive(id, payload);
-    let n = written(id, &got.own, &mut bytes);
+    let n = written(id, &own_bytes(id, payload), &mut bytes);
     let own = text::first(payload, full);
     let mut wanted = [BEFORE; BUFFER];
     writing::write(&mut wanted, 0, own);

@@ -29,6 +29,11 @@ fn statustext() -> wire::Statustext {
     }
 }
 
+// The message's own bytes in a payload; zeros for one that is only written.
+pub fn own_bytes(id: u32, payload: &[u8]) -> [u8; OWN_BYTES] {
+    wire::receive(id, payload).map_or([0; OWN_BYTES], |got| got.own)
+}
+
 // The message of these own bytes, written: how many bytes that takes, or 0 for one that is only read.
 pub fn written(id: u32, own: &[u8; OWN_BYTES], to: &mut [u8]) -> usize {
     match id {
@@ -117,10 +122,10 @@ pub fn put_message(text: &mut Text, id: u32, payload: &[u8], room: usize) {
     let mut buffer = [BEFORE; BUFFER];
     let end = text::within(room, &buffer);
     let bytes = &mut buffer[..end];
-    let got = wire::receive(id, payload);
-    let n = written(id, &got.own, bytes);
+    let own = own_bytes(id, payload);
+    let n = written(id, &own, bytes);
     rows::put_begun(text, b'm', &[id as u64, n as u64]);
-    put_fields(text, id, &got.own);
+    put_fields(text, id, &own);
     if 0 < end {
         text.put_byte(b' ');
         text::put_hex(text, bytes);
