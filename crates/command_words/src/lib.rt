@@ -46,7 +46,7 @@ fn put_value(text: &mut Text, word: &[u8], n: u16, x: f32)
 }
 
 // The rest of a line from its command on.
-#[tactic(auto, unfolding(crate::specs::Commands::command_text))]
+#[tactic(auto, unfolding(crate::specs::Commands::command_text, adding::specs::Added::each))]
 pub fn put_command(text: &mut Text, command: Command)
     ensures { Adds (command_text command ++ ascii "\n") text.old text.new }
 {

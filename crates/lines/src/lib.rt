@@ -1,7 +1,7 @@
 // The lines that a call script's records print, each put behind the text so far.
 #![tactic(auto)]
 
-ghost use Rattle.std.specs.Prelude.{◌≡◌, drop};
+ghost use Rattle.std.specs.Prelude.{◌≡◌, ◌↔◌, drop, IsTrue, EachIndex, slice_index};
 ghost use Rattle.adding.specs.Added.{Adds};
 ghost use Rattle.lines.specs.Lines.{untouched as Lines·untouched, reply_text, marked_end, served_line, done_line, moved_line, stop_text};
 
@@ -12,11 +12,17 @@ use text::Text;
 // What a reply array holds before a call.
 pub const REPLY_FILL: u8 = 0xA5;
 
+fn filled(bytes: &[u8]) -> bool
+    ensures { IsTrue result ↔ EachIndex bytes.now (λ k. slice_index bytes.now k ≡ 165) }
+{
+    bytes.iter().all(|byte| *byte == REPLY_FILL)
+}
+
 // Whether the bytes of a reply array from len on are what they were before the call.
 fn untouched(reply: &[u8], len: usize) -> bool
     ensures { result ≡ Lines·untouched (drop len reply.now) }
 {
-    reply.iter().skip(len).all(|byte| *byte == REPLY_FILL)
+    filled(text::part(reply, len, reply.len()))
 }
 
 // The bytes of a reply, or a mark where there are none.
@@ -55,7 +61,6 @@ pub fn put_served(text: &mut Text, letter: u8, outcome: u8, id: u32, len: usize,
 }
 
 // What a "command done" call answered.
-#[tactic(auto, unfolding(crate::specs::Lines::done_line))]
 pub fn put_done(text: &mut Text, outcome: u8, command: Command)
     ensures { Adds (done_line outcome command) text.old text.new }
 {
@@ -64,7 +69,6 @@ pub fn put_done(text: &mut Text, outcome: u8, command: Command)
 }
 
 // What a move answered.
-#[tactic(auto, unfolding(crate::specs::Lines::moved_line))]
 pub fn put_moved(text: &mut Text, outcome: u8)
     ensures { Adds (moved_line outcome) text.old text.new }
 {
