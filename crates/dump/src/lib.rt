@@ -34,7 +34,6 @@ fn put_home(text: &mut Text, home: bool)
     }
 }
 
-#[tactic(auto, unfolding(crate::specs::Dumps::state_text))]
 fn put_state(text: &mut Text, halves: bool, state: State, store: &[u32])
     ensures { Adds (state_text halves state store.now) text.old text.new }
 {

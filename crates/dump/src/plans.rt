@@ -38,19 +38,18 @@ fn stored_item(words: &[u32], kind: u8, n: u16) -> [u8; ITEM_BYTES]
 fn put_item(text: &mut Text, letter: u8, kind: u8, n: u16, bytes: &[u8])
     ensures { Adds (item_line letter kind n bytes.now) text.old text.new }
 {
-    rows::put_line(text, &[letter], &[kind as u64, n as u64], b" ", bytes, b"\n");
+    rows::put_line(
+        text,
+        &[letter],
+        &[kind as u64, n as u64],
+        b" ",
+        bytes,
+        b"\n",
+    );
 }
 
 // The items of a kind in a half, from one number up to another.
-fn put_items(
-    text: &mut Text,
-    letter: u8,
-    kind: u8,
-    half: bool,
-    from: u16,
-    to: u16,
-    store: &[u32],
-)
+fn put_items(text: &mut Text, letter: u8, kind: u8, half: bool, from: u16, to: u16, store: &[u32])
     ensures { Adds (item_lines letter kind half store.now from (to - from)) text.old text.new }
 {
     for n in from..to {
@@ -120,7 +119,6 @@ fn half_mark(halves: bool, half: bool) -> [u8; 3]
     }
 }
 
-#[tactic(auto, unfolding(crate::specs::Plans::plan_line))]
 fn put_plan(text: &mut Text, halves: bool, kind: u8, plan: Plan)
     ensures { Adds (plan_line halves kind plan) text.old text.new }
 {
@@ -137,7 +135,7 @@ fn put_plan(text: &mut Text, halves: bool, kind: u8, plan: Plan)
 }
 
 // The plan of a kind, its upload, and the items of both.
-#[tactic(auto, unfolding(crate::specs::Plans::kind_text))]
+
 pub fn put_kind(text: &mut Text, halves: bool, kind: u8, plan: Plan, store: &[u32])
     ensures { Adds (kind_text halves kind plan store.now) text.old text.new }
 {
