@@ -102,7 +102,7 @@ fn moved(
 ) -> Played {
     let from = text::part(old, 0, r.a as usize);
     let moved = moves::to_words(state, from, front_words(store, r.store));
-    let at = lines::put_moved(out, at, moved.outcome);
+    let at = lines::put_moved(out, at, moved.outcome());
     let state = moved.state;
     Played { state, at }
 }
