@@ -1,18 +1,23 @@
 -- The reading of a fence as the code holds it, item by item as the rules read it.
-use Rattle.std.specs.Prelude.{◌≡◌, refl, List, [], ◌∷◌, ◌++◌, Bool, true, false, cond, ◌&&◌, ◌||◌, not, ℕ, ◌-◌, eqb}
+use Rattle.std.specs.Prelude.{◌≡◌, refl, List, [], ◌∷◌, ◌++◌, cond, ◌&&◌, ◌||◌, ℕ, ◌-◌, eqb, Option, Some, None, Result, Ok, Err}
+use Rattle.std.specs.Int.NonZero.{non_zero_u32_get}
 use Rattle.rules.specs.Payload.{Bytes}
 use Rattle.rules.specs.Messages.{Item, item_in}
 use Rattle.rules.specs.Items.{inclusion_vertex, exclusion_vertex}
-use Rattle.rules.specs.Fence.{between, broken, inside, run_with, read_item, read_items, is_between, vertices_of}
+use Rattle.rules.specs.Fence.{between, broken, inside, run_with, read_item, read_items, vertices_of}
 use Rattle.rules.specs.Fence as rules
-use Rattle.fence.specs.declared.Reading.{Reading}
+use Rattle.fence.specs.declared.OpenRun.{OpenRun}
+use Rattle.fence.specs.declared.Broken.{Broken}
 
-abbrev pub broken_reading : Reading
-broken_reading = record { broken = true; left = 0; command = 0; vertices = 0 }
+-- the reading between runs, or with one open
+abbrev pub open_reading : Option OpenRun → rules.Reading
+open_reading None = between
+open_reading (Some r) = inside (non_zero_u32_get r.left) r.command r.vertices
 
--- the reading that a record stands for
-unfoldable pub reading_of : Reading → rules.Reading
-reading_of r = cond r.broken broken (run_with r.left r.command r.vertices)
+-- the reading that a result stands for
+abbrev pub reading_of : Result (Option OpenRun) Broken → rules.Reading
+reading_of (Ok run) = open_reading run
+reading_of (Err b) = broken
 
 -- `read_item` over the two numbers of an item that it goes by
 unfoldable pub read_as : rules.Reading → (command m : ℕ) → rules.Reading
@@ -33,13 +38,3 @@ pub reads_more : (r : rules.Reading) (items : List Bytes) (b : Bytes)
 unfolding read_items
 reads_more r [] b = read_is r (item_in b)
 reads_more r (a ∷ items) b = reads_more (read_item r (item_in a)) items b
-
--- the reading ends between runs
-pub between_is : (r : Reading) → (not r.broken && eqb r.left 0) ≡ is_between (reading_of r)
-unfolding reading_of run_with
-between_is r = go r.broken (eqb r.left 0)
-  where
-    go : (b e : Bool) → (not b && e) ≡ is_between (cond b broken (cond e between (inside r.left r.command r.vertices)))
-    go true e = refl
-    go false true = refl
-    go false false = refl

@@ -3,12 +3,13 @@
 
 ghost use Rattle.std.specs.Prelude.{◌≡◌, ◌≤◌, length};
 ghost use Rattle.rules.specs.Limits.{fence, size_of, store_words};
-ghost use Rattle.rules.specs.Fence.{fence_ok};
+ghost use Rattle.rules.specs.Fence.{between, run_with, read_items, fence_ok};
 ghost use Rattle.places.specs.Forms.{words, items_in};
-ghost use Rattle.fence.specs.FenceReading.{broken_reading, reading_of, read_as};
+ghost use Rattle.fence.specs.FenceReading.{open_reading, reading_of, read_as};
 
 use limits::{FENCE, MAX_RETURN_POINTS};
 use places::{command_at, param1_at, place_at, with_command};
+use std::num::NonZeroU32;
 use values::{float_of, number_of};
 
 const RETURN_POINT: u16 = 5000;
@@ -17,58 +18,60 @@ const INCLUSION_VERTEX: u16 = 5001;
 
 const EXCLUSION_VERTEX: u16 = 5002;
 
-// Where the reading stands: the rule is broken, or `left` vertices of the open run are still to come, each with the command
-// and the number of vertices of its first.
+// An open run: how many vertices are still to come, and the command and the number of vertices of its first.
 #[derive(Clone, Copy)]
-struct Reading {
-    broken: bool,
-    left: u32,
+struct OpenRun {
+    left: NonZeroU32,
     command: u16,
     vertices: u32,
 }
 
-fn broken() -> Reading
-    ensures { result ≡ broken_reading }
+// The rule is broken.
+#[derive(Clone, Copy)]
+struct Broken;
+
+// The run with this many vertices to come; none is open where they are 0.
+#[tactic(auto, unfolding(rules::specs::Fence::run_with))]
+fn run_with(left: u32, command: u16, vertices: u32) -> Option<OpenRun>
+    ensures { open_reading result ≡ run_with left command vertices }
 {
-    Reading {
-        broken: true,
-        left: 0,
-        command: 0,
-        vertices: 0,
-    }
+    let left = NonZeroU32::new(left)?;
+    Some(OpenRun {
+        left,
+        command,
+        vertices,
+    })
 }
 
 // Reading one more item.
-fn read_item(reading: Reading, command: u16, vertices: u32) -> Reading
-    ensures { reading_of result ≡ read_as (reading_of reading) command vertices }
+#[tactic(auto, unfolding(crate::specs::FenceReading::read_as))]
+fn read_item(run: Option<OpenRun>, command: u16, vertices: u32) -> Result<Option<OpenRun>, Broken>
+    ensures { reading_of result ≡ read_as (open_reading run) command vertices }
 {
     let vertex = (command == INCLUSION_VERTEX) | (command == EXCLUSION_VERTEX);
-    if reading.broken {
-        return reading;
-    }
-    if reading.left == 0 {
-        if !vertex {
-            return reading;
+    match run {
+        None if !vertex => Ok(None),
+        None if vertices == 0 => Err(Broken),
+        None => Ok(run_with(vertices - 1, command, vertices)),
+        Some(open) if vertex & (command == open.command) & (vertices == open.vertices) => {
+            Ok(run_with(open.left.get() - 1, command, vertices))
         }
-        if vertices == 0 {
-            return broken();
-        }
-        return Reading {
-            broken: false,
-            left: vertices - 1,
-            command,
-            vertices,
-        };
+        Some(_) => Err(Broken),
     }
-    if vertex & (command == reading.command) & (vertices == reading.vertices) {
-        return Reading {
-            broken: false,
-            left: reading.left - 1,
-            command: reading.command,
-            vertices: reading.vertices,
-        };
+}
+
+// Reading the first n fence items of a half.
+fn read_items(store: &[u32], half: bool, n: u16) -> Result<Option<OpenRun>, Broken>
+    requires { (store_words ≤ length store.now) × (n ≤ size_of fence) }
+    ensures { reading_of result ≡ read_items between (items_in words store.now half fence n) }
+{
+    let mut run = None;
+    for i in 0..n {
+        let at = place_at(FENCE, half, i);
+        let vertices = number_of(float_of(param1_at(store, at)));
+        run = read_item(run, command_at(store, at), vertices)?;
     }
-    broken()
+    Ok(run)
 }
 
 // Whether the first n fence items of a half keep the rule.
@@ -76,22 +79,7 @@ pub fn fence_ok(store: &[u32], half: bool, n: u16) -> bool
     requires { (store_words ≤ length store.now) × (n ≤ size_of fence) }
     ensures { result ≡ fence_ok (items_in words store.now half fence n) }
 {
-    let mut reading = Reading {
-        broken: false,
-        left: 0,
-        command: 0,
-        vertices: 0,
-    };
-    let mut i: u16 = 0;
-    while i < n {
-        let at = place_at(FENCE, half, i);
-        reading = read_item(
-            reading,
-            command_at(store, at),
-            number_of(float_of(param1_at(store, at))),
-        );
-        i += 1;
-    }
     let points = with_command(store, FENCE, half, n, RETURN_POINT);
-    !reading.broken & (reading.left == 0) & (points <= MAX_RETURN_POINTS)
+    let whole = read_items(store, half, n).is_ok_and(|run| run.is_none());
+    whole & (points <= MAX_RETURN_POINTS)
 }

@@ -2,6 +2,7 @@
 use Rattle.std.specs.Prelude.{ℕ, ◌≡◌}
 use Rattle.std.proofs.Common.{refl, sym, ap, ◌∙◌}
 use Rattle.rules.specs.Messages as rules
+use Rattle.rules.specs.Values.{float, signed}
 use Rattle.item.specs.declared.Item.{Item}
 
 -- what the struct keeps of an item, "bit for bit, NaN included"
@@ -26,6 +27,13 @@ patterns item =
 abbrev pub item_for : rules.Item → Item
 item_for i =
     record {
+      param1 = float i.param1;
+      param2 = float i.param2;
+      param3 = float i.param3;
+      param4 = float i.param4;
+      z = float i.z;
+      x = signed i.x;
+      y = signed i.y;
       bits1 = i.param1;
       bits2 = i.param2;
       bits3 = i.param3;
@@ -38,6 +46,13 @@ item_for i =
       frame = i.frame;
       autocontinue = i.autocontinue;
       kind = i.kind;
+      param1_is = refl;
+      param2_is = refl;
+      param3_is = refl;
+      param4_is = refl;
+      z_is = refl;
+      x_is = refl;
+      y_is = refl;
     }
 
 -- the rules' item of these patterns and numbers
@@ -62,9 +77,6 @@ item_with param1 param2 param3 param4 x y z seq command frame autocontinue kind 
 
 pub patterns_of : {item : Item} {i : rules.Item} → item ≡ item_for i → patterns item ≡ i
 patterns_of e = ap patterns e
-
-pub item_for_patterns : (item : Item) → item ≡ item_for (patterns item)
-item_for_patterns item = refl
 
 pub values_of : {item : Item} {i : rules.Item} → item ≡ item_for i → item ≡ item_for (patterns item)
 values_of e = e ∙ ap item_for (sym (patterns_of e))

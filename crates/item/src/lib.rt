@@ -1,21 +1,25 @@
 // The mission item as a struct by value, made of its patterns and numbers, with what the patterns stand for, and its 38 bytes. Judging it is left to item_rules.
 #![tactic(auto)]
 
+mod meaning;
 mod payload;
 
 ghost use Rattle.std.specs.Prelude.{◌≡◌};
-ghost use Rattle.rules.specs.Items.{is_jump};
-ghost use Rattle.rules.specs.NextCommand.{repeat_of};
-ghost use Rattle.rules.specs.Values.{float, signed, whole_of, whole_number};
-ghost use Rattle.item.specs.Patterns.{patterns};
+ghost use Rattle.rules.specs.Values.{float, signed};
 
-use limits::JUMP;
+pub use meaning::made;
 pub use payload::{item_at, item_bytes};
-use values::NotWhole;
 
-// The 32-bit patterns of params, x, y and z: a NaN's bits do not survive an f32. What they stand for, the methods say.
-#[derive(Clone, Copy, PartialEq, Eq)]
+// Params, x, y and z as values, with their 32-bit patterns beside them: a NaN's bits do not survive an f32. The methods give the values.
+#[derive(Clone, Copy)]
 pub struct Item {
+    param1: f32,
+    param2: f32,
+    param3: f32,
+    param4: f32,
+    z: f32,
+    x: i32,
+    y: i32,
     pub bits1: u32,
     pub bits2: u32,
     pub bits3: u32,
@@ -28,79 +32,55 @@ pub struct Item {
     pub frame: u8,
     pub autocontinue: u8,
     pub kind: u8,
+    ghost param1_is: { param1 ≡ float bits1 },
+    ghost param2_is: { param2 ≡ float bits2 },
+    ghost param3_is: { param3 ≡ float bits3 },
+    ghost param4_is: { param4 ≡ float bits4 },
+    ghost z_is: { z ≡ float bits_z },
+    ghost x_is: { x ≡ signed bits_x },
+    ghost y_is: { y ≡ signed bits_y },
 }
 
 impl Item {
     pub fn param1(self) -> f32
         ensures { result ≡ float self.bits1 }
     {
-        values::float_of(self.bits1)
+        self.param1
     }
 
     pub fn param2(self) -> f32
         ensures { result ≡ float self.bits2 }
     {
-        values::float_of(self.bits2)
+        self.param2
     }
 
     pub fn param3(self) -> f32
         ensures { result ≡ float self.bits3 }
     {
-        values::float_of(self.bits3)
+        self.param3
     }
 
     pub fn param4(self) -> f32
         ensures { result ≡ float self.bits4 }
     {
-        values::float_of(self.bits4)
+        self.param4
     }
 
     pub fn z(self) -> f32
         ensures { result ≡ float self.bits_z }
     {
-        values::float_of(self.bits_z)
+        self.z
     }
 
     pub fn x(self) -> i32
         ensures { result ≡ signed self.bits_x }
     {
-        values::signed_of(self.bits_x)
+        self.x
     }
 
     pub fn y(self) -> i32
         ensures { result ≡ signed self.bits_y }
     {
-        values::signed_of(self.bits_y)
-    }
-
-    pub fn is_jump(self) -> bool
-        ensures { result ≡ is_jump (patterns self) }
-    {
-        self.command == JUMP
-    }
-
-    // Param 1 as a number: a jump's target, a servo's channel, a vertex's count of vertices. 0 where it is none that is at least 0.
-    pub fn number1(self) -> u32
-        ensures { result ≡ whole_number (whole_of (float (patterns self).param1)) }
-    {
-        values::number_of(self.param1())
-    }
-
-    // Param 2 as a number: a servo's pulse. 0 where it is none that is at least 0.
-    pub fn number2(self) -> u32
-        ensures { result ≡ whole_number (whole_of (float (patterns self).param2)) }
-    {
-        values::number_of(self.param2())
-    }
-
-    // A jump's repeat: 1 where param 2 has no value.
-    pub fn repeat(self) -> i32
-        ensures { result ≡ repeat_of (patterns self) }
-    {
-        match values::whole_of(self.param2()) {
-            Ok(times) => times,
-            Err(NotWhole::NoValue) => 1,
-            Err(NotWhole::Fraction) => 0,
-        }
+        self.y
     }
 }

@@ -5,7 +5,7 @@ ghost use Rattle.rules.specs.Messages.{station, item_int, item_in};
 ghost use Rattle.item.specs.Patterns.{item_for, patterns};
 ghost use Rattle.fields.specs.Packed.{BytesOf};
 
-use crate::Item;
+use crate::{Item, made};
 use fields::{bytes16, bytes32, u16_at, u32_at};
 use limits::ITEM_BYTES;
 
@@ -14,20 +14,20 @@ pub fn item_at(p: &[u8]) -> Item
     requires { item_bytes ≤ length p.now }
     ensures { result ≡ item_for (item_in p.now) }
 {
-    Item {
-        bits1: u32_at(p, 0),
-        bits2: u32_at(p, 4),
-        bits3: u32_at(p, 8),
-        bits4: u32_at(p, 12),
-        bits_x: u32_at(p, 16),
-        bits_y: u32_at(p, 20),
-        bits_z: u32_at(p, 24),
-        seq: u16_at(p, 28),
-        command: u16_at(p, 30),
-        frame: p[34],
-        autocontinue: p[36],
-        kind: p[37],
-    }
+    made(
+        u32_at(p, 0),
+        u32_at(p, 4),
+        u32_at(p, 8),
+        u32_at(p, 12),
+        u32_at(p, 16),
+        u32_at(p, 20),
+        u32_at(p, 24),
+        u16_at(p, 28),
+        u16_at(p, 30),
+        p[34],
+        p[36],
+        p[37],
+    )
 }
 
 // The 38 bytes of ITEM_INT, written from the item's patterns; also those of a stored item, whose system, component and current are 0. A literal:

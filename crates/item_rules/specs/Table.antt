@@ -1,11 +1,9 @@
 -- What the code's command table says, in the rules' terms.
-use Rattle.std.specs.Prelude.{ℕ, List, [], ◌∷◌, cond, eqb}
+use Rattle.std.specs.Prelude.{ℕ, List, [], ◌∷◌, cond, eqb, Option, None, Some}
 use Rattle.rules.specs.Items as rules
 use Rattle.item_rules.specs.declared.table.ParamRule.{ParamRule}
 use Rattle.item_rules.specs.declared.table.ParamRule.TheVariants.{Anything, Finite, AtLeastZero, AboveZero, UpTo, Whole, WholeOrNone, Target}
 use Rattle.item_rules.specs.declared.table.Row.{Row}
-use Rattle.item_rules.specs.declared.table.Listing.{Listing}
-use Rattle.item_rules.specs.declared.table.Listing.TheVariants.{Listed, NotListed}
 
 -- what each case of the code's ParamRule asks
 abbrev pub rule_of : ParamRule → rules.ParamRule
@@ -23,17 +21,7 @@ abbrev pub row_of : ℕ → Row → rules.Row
 row_of command row =
     record { command = command; kind = row.kind; positional = row.positional; param1 = rule_of row.param1; param2 = rule_of row.param2 }
 
--- what looking a command up finds
-pub data Found : Type 0 where
-  row : rules.Row → Found
-  no_row : Found
-
 -- the first row of a command
-unfoldable pub lookup : ℕ → List rules.Row → Found
-lookup command [] = no_row
-lookup command (r ∷ rs) = cond (eqb r.command command) (row r) (lookup command rs)
-
--- what the code's answer for a command says
-abbrev pub looked_up : ℕ → Listing → Found
-looked_up command (Listed r) = row (row_of command r)
-looked_up command NotListed = no_row
+unfoldable pub lookup : ℕ → List rules.Row → Option rules.Row
+lookup command [] = None
+lookup command (r ∷ rs) = cond (eqb r.command command) (Some r) (lookup command rs)

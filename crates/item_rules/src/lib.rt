@@ -6,11 +6,11 @@ mod table;
 
 ghost use Rattle.std.specs.Prelude.{◌≡◌};
 ghost use Rattle.rules.specs.Items.{commands, fault_among, not_home, fault};
-ghost use Rattle.item.specs.Patterns.{item_for, patterns};
+ghost use Rattle.limits.specs.Codes.{result_code};
+ghost use Rattle.item.specs.Patterns.{patterns};
 
 use item::Item;
-use limits::{FLIGHT, UNSUPPORTED, WAYPOINT};
-use table::Listing;
+use limits::{FLIGHT, Fault, WAYPOINT};
 
 // An item that stands where home must stand, and is no waypoint.
 fn not_home(home: bool, item: Item, kind: u8, own: u16) -> bool
@@ -19,31 +19,37 @@ fn not_home(home: bool, item: Item, kind: u8, own: u16) -> bool
     home & (kind == FLIGHT) & (own == 0) & (item.command != WAYPOINT)
 }
 
-// The result by the command table.
-fn listed_fault(home: bool, item: Item, kind: u8, count: u16, own: u16, jumps: u16) -> u8
-    requires { item ≡ item_for (patterns item) }
-    ensures { result ≡ fault_among (commands home) kind count own jumps (patterns item) }
+// By the command table.
+fn listed_fault(
+    home: bool,
+    item: Item,
+    kind: u8,
+    count: u16,
+    own: u16,
+    jumps: u16,
+) -> Result<(), Fault>
+    ensures { result_code result ≡ fault_among (commands home) kind count own jumps (patterns item) }
 {
-    let listing = table::row_of(home, item.command);
-    match listing {
-        Listing::Listed(row) => {
-            if row.kind == kind {
-                checks::row_fault(row, item, count, own, jumps)
-            } else {
-                UNSUPPORTED
-            }
-        }
-        Listing::NotListed => UNSUPPORTED,
+    let row = table::row_of(home, item.command).ok_or(Fault::Unsupported)?;
+    if row.kind != kind {
+        return Err(Fault::Unsupported);
     }
+    checks::row_fault(row, item, count, own, jumps)
 }
 
-// The result for an item as number `own` of a plan of `count` items of a kind, with `jumps` jumps before it: 0, or its first fault.
-pub fn verdict(home: bool, item: Item, kind: u8, count: u16, own: u16, jumps: u16) -> u8
-    requires { item ≡ item_for (patterns item) }
-    ensures { result ≡ fault home kind count own jumps (patterns item) }
+// The first fault of an item as number `own` of a plan of `count` items of a kind, with `jumps` jumps before it.
+pub fn verdict(
+    home: bool,
+    item: Item,
+    kind: u8,
+    count: u16,
+    own: u16,
+    jumps: u16,
+) -> Result<(), Fault>
+    ensures { result_code result ≡ fault home kind count own jumps (patterns item) }
 {
     if not_home(home, item, kind, own) {
-        return UNSUPPORTED;
+        return Err(Fault::Unsupported);
     }
     listed_fault(home, item, kind, count, own, jumps)
 }

@@ -1,7 +1,8 @@
 // The command table: for each command the kind it belongs to, whether it is positional, and what is asked of params 1 and 2.
-ghost use Rattle.std.specs.Prelude.{◌≡◌};
+ghost use Rattle.std.specs.Prelude.{◌≡◌, Some};
+ghost use Rattle.std.specs.Option.{option_map};
 ghost use Rattle.rules.specs.Items.{commands};
-ghost use Rattle.item_rules.specs.Table.{looked_up, lookup};
+ghost use Rattle.item_rules.specs.Table.{row_of, lookup};
 
 use limits::{
     CHANGE_SPEED, DELAY, DISTANCE, FENCE, FLIGHT, JUMP, RALLY, RETURN_HOME, SET_SERVO, WAYPOINT,
@@ -33,17 +34,10 @@ pub struct Row {
     pub param2: ParamRule,
 }
 
-// What the table has for a command.
-#[derive(Clone, Copy)]
-pub enum Listing {
-    Listed(Row),
-    NotListed,
-}
-
-fn listed_as(kind: u8, positional: bool, param1: ParamRule, param2: ParamRule) -> Listing
-    ensures { result ≡ Listing.Listed (record { kind = kind; positional = positional; param1 = param1; param2 = param2 }) }
+fn listed_as(kind: u8, positional: bool, param1: ParamRule, param2: ParamRule) -> Option<Row>
+    ensures { result ≡ Some (record { kind = kind; positional = positional; param1 = param1; param2 = param2 }) }
 {
-    Listing::Listed(Row {
+    Some(Row {
         kind,
         positional,
         param1,
@@ -52,8 +46,8 @@ fn listed_as(kind: u8, positional: bool, param1: ParamRule, param2: ParamRule) -
 }
 
 // "16 to 183 belong to flight, 5000 to 5004 to fence, 5100 to rally; anything else is 3". Of a jump it matters whether item 0 is home.
-pub fn row_of(home: bool, command: u16) -> Listing
-    ensures { looked_up command result ≡ lookup command (commands home) }
+pub fn row_of(home: bool, command: u16) -> Option<Row>
+    ensures { option_map (row_of command) result ≡ lookup command (commands home) }
 {
     match command {
         WAYPOINT | 18..=19 => listed_as(FLIGHT, true, ParamRule::AtLeastZero, ParamRule::Anything),
@@ -78,6 +72,6 @@ pub fn row_of(home: bool, command: u16) -> Listing
         5001..=5002 => listed_as(FENCE, true, ParamRule::Whole(3, 64), ParamRule::Anything),
         5003..=5004 => listed_as(FENCE, true, ParamRule::AboveZero, ParamRule::Anything),
         5100 => listed_as(RALLY, true, ParamRule::Anything, ParamRule::Anything),
-        _ => Listing::NotListed,
+        _ => None,
     }
 }

@@ -178,6 +178,6 @@ fn own_shown(id: u32, own: &[u8; OWN_BYTES], to: &mut [u8]) -> [u64; NUMBERS] {
 }
 
 pub fn shown(id: u32, p: &[u8], to: &mut [u8]) -> [u64; NUMBERS] {
-    let got = wire::receive(id, p);
-    own_shown(id, &got.own, to)
+    let own = wire::receive(id, p).map_or([0u8; OWN_BYTES], |got| got.own);
+    own_shown(id, &own, to)
 }

@@ -1,21 +1,22 @@
 -- What holds of every id, shown row by row: each law of the table is computed at the ten ids and holds of all others.
-use Prim.Native.Nat.{ℕ, zero, suc, ◌+◌, ◌-◌, ◌≤◌, ◌<◌}
+use Prim.Native.Nat.{ℕ, ◌+◌, ◌≤◌, ◌<◌}
 use mathlib.Core.Path.{◌≡◌, refl, ap, sym, subst, ◌∙◌}
 use mathlib.Core.List.{List, [], ◌∷◌}
-use mathlib.Core.Bool.{Bool, true, false, not, ◌&&◌}
+use mathlib.Core.Bool.{Bool, true, false, ◌&&◌}
 use native.Mathlib.Omega.{arith}
-use lib.Dec.{T, eqb, ltb, leb, ltb→lt, leb→le, lit<, lit≤}
-use lib.ListN.{length, get_or, take, length-take, get_or-eq_default}
+use lib.Dec.{T, eqb, leb, leb→le, lit≤}
+use lib.ListN.{get_or}
 use lib.Seq.{get_or-take}
 use borrow.Author.Tests.{eqb-true, eqb-false, ne_eqb}
-use Rattle.rules.specs.Limits.{item_bytes}
+use Rattle.std.specs.Prelude.{Option, None, Some, IfSome, is_some}
+use Rattle.rules.specs.Limits.{flight, item_bytes}
 use Rattle.rules.specs.Payload.{Bytes, number_at}
-use Rattle.rules.specs.Layouts.{Field, layout_of, values, current_id, statustext_id}
-use Rattle.rules.specs.Messages.{station, unknown, message_of, decode}
+use Rattle.rules.specs.Layouts.{Field, layout_of, values}
+use Rattle.rules.specs.Messages.{unknown, message_of, decode}
 use Rattle.fields.specs.Numbers.{number_one}
-use Rattle.message_table.specs.Table.{ids, row_of, fulls, none, targets, kinds, row_at, is_read, target_of, kind_of, head_of, Owned, ReadAs}
+use Rattle.message_table.specs.Table.{is_read, head_of, kind_in, head_in, full_in, head_at, IsRowOf, Owned, ReadAs}
+use Rattle.message_table.specs.declared.HeadAt.{HeadAt}
 use Rattle.message_table.specs.declared.Row.{Row}
-use Rattle.message_table.specs.declared.Received.{Received}
 use Rattle.message_table.proofs.Numbers.{number_same}
 
 left : (a b : Bool) → T (a && b) → T a
@@ -39,13 +40,12 @@ other k id n = ne_eqb k id (λ e. n (sym e))
 
 -- what is known of an id that has no row
 record NoRow (id : ℕ) : Type 0 where
-  pub row : row_of id ≡ length ids
   pub full : (layout_of id).full ≡ 0
   pub fields : (layout_of id).fields ≡ []
   pub message : (p : Bytes) → decode id p ≡ unknown
 
 outside : (id : ℕ) → (id ≡ 38 → ⊥) → (id ≡ 41 → ⊥) → (id ≡ 42 → ⊥) → (id ≡ 43 → ⊥) → (id ≡ 44 → ⊥) → (id ≡ 45 → ⊥) → (id ≡ 47 → ⊥) → (id ≡ 51 → ⊥) → (id ≡ 73 → ⊥) → (id ≡ 253 → ⊥) → NoRow id
-unfolding row_of layout_of decode message_of
+unfolding layout_of decode message_of
 outside id n38 n41 n42 n43 n44 n45 n47 n51 n73 n253 =
     let a38 = other 38 id n38 in
     let a41 = other 41 id n41 in
@@ -58,7 +58,6 @@ outside id n38 n41 n42 n43 n44 n45 n47 n51 n73 n253 =
     let a73 = other 73 id n73 in
     let a253 = other 253 id n253 in
     record {
-      row = rw (a38, a41, a42, a43, a44, a45, a47, a51, a73, a253);
       full = rw (a38, a41, a42, a43, a44, a45, a47, a51, a73, a253);
       fields = rw (a38, a41, a42, a43, a44, a45, a47, a51, a73, a253);
       message =
@@ -75,91 +74,27 @@ by_row P p38 p41 p42 p43 p44 p45 p47 p51 p73 p253 none id =
 
 -- ---- the row of an id
 
-pub found : (id n : ℕ) (row : Row) → id ≡ n → row ≡ row_at (row_of n) → row ≡ row_at (row_of id)
-found id n row e is = is ∙ ap (λ (k : ℕ). row_at (row_of k)) (sym e)
+pub found : {id n : ℕ} {row known : Option Row} → id ≡ n → row ≡ known → IsRowOf n known → IsRowOf id row
+found {id} {n} {row} {known} e is of = subst (λ (k : ℕ). IsRowOf k row) (sym e) (subst (λ (r : Option Row). IsRowOf n r) (sym is) of)
 
-pub missed : (id : ℕ) (row : Row) → (id ≡ 38 → ⊥) → (id ≡ 41 → ⊥) → (id ≡ 42 → ⊥) → (id ≡ 43 → ⊥) → (id ≡ 44 → ⊥) → (id ≡ 45 → ⊥) → (id ≡ 47 → ⊥) → (id ≡ 51 → ⊥) → (id ≡ 73 → ⊥) → (id ≡ 253 → ⊥) → row ≡ row_at (length ids) → row ≡ row_at (row_of id)
-missed id row n38 n41 n42 n43 n44 n45 n47 n51 n73 n253 is = is ∙ ap row_at (sym (outside id n38 n41 n42 n43 n44 n45 n47 n51 n73 n253).row)
+pub missed : (id : ℕ) → (id ≡ 38 → ⊥) → (id ≡ 41 → ⊥) → (id ≡ 42 → ⊥) → (id ≡ 43 → ⊥) → (id ≡ 44 → ⊥) → (id ≡ 45 → ⊥) → (id ≡ 47 → ⊥) → (id ≡ 51 → ⊥) → (id ≡ 73 → ⊥) → (id ≡ 253 → ⊥) → IsRowOf id None
+missed id n38 n41 n42 n43 n44 n45 n47 n51 n73 n253 =
+    let no : NoRow id = outside id n38 n41 n42 n43 n44 n45 n47 n51 n73 n253 in
+    record { full = sym no.full; read = λ p. ap is_read (sym (no.message p)); head = tt; within = tt }
 
--- ---- the columns of the table
+pub heads : (target kind : ℕ) (b : Bytes)
+    → head_in b (record { target = target; kind = Some kind })
+    ≡ record { system = number_at 1 target b; component = number_at 1 (target + 1) b; kind = number_at 1 kind b }
+heads target kind b =
+    λ i. record { system = sym (number_one target b) i; component = sym (number_one (target + 1) b) i; kind = sym (number_one kind b) i }
 
-full_row : (id : ℕ) → get_or fulls (row_of id) 0 ≡ (layout_of id).full
-unfolding row_of layout_of
-full_row = by_row (λ id. get_or fulls (row_of id) 0 ≡ (layout_of id).full) refl refl refl refl refl refl refl refl refl refl (λ id no. rw (no.row, no.full))
-
-pub full_at : (id : ℕ) (row : Row) → row ≡ row_at (row_of id) → row.full ≡ (layout_of id).full
-full_at id row e = ap (λ (r : Row). r.full) e ∙ full_row id
-
--- the test of what is read
-abbrev read_by : (id : ℕ) → Row → Bool
-read_by id row = row.listed && not (eqb id current_id) && not (eqb id statustext_id)
-
-read_row : (id : ℕ) (p : Bytes) → read_by id (row_at (row_of id)) ≡ is_read (decode id p)
-unfolding row_of decode message_of
-read_row id p = by_row (λ id. read_by id (row_at (row_of id)) ≡ is_read (decode id p)) refl refl refl refl refl refl refl refl refl refl (λ id no. rw (no.row, no.message p)) id
+pub heads_no_kind : (target : ℕ) (b : Bytes)
+    → head_in b (record { target = target; kind = None })
+    ≡ record { system = number_at 1 target b; component = number_at 1 (target + 1) b; kind = flight }
+heads_no_kind target b = λ i. record { system = sym (number_one target b) i; component = sym (number_one (target + 1) b) i; kind = flight }
 
 not_read_lem : {A : Type 0} → false ≡ true → A
 not_read_lem e = absurd (subst T (sym e) tt)
-
--- of the messages that are read, each column names the byte that the decoded message has
-
-target_row : (id : ℕ) (b : Bytes) → is_read (decode id b) ≡ true → station (get_or b (get_or targets (row_of id) 0) 0) (get_or b (get_or targets (row_of id) 0 + 1) 0) ≡ target_of (decode id b)
-unfolding row_of layout_of decode message_of values
-target_row id b =
-    by_row (λ id. is_read (decode id b) ≡ true → station (get_or b (get_or targets (row_of id) 0) 0) (get_or b (get_or targets (row_of id) 0 + 1) 0) ≡ target_of (decode id b))
-    (λ e. pair 4)
-    (λ e. pair 2)
-    not_read_lem
-    (λ e. pair 0)
-    (λ e. pair 2)
-    (λ e. pair 0)
-    (λ e. pair 0)
-    (λ e. pair 2)
-    (λ e. pair 32)
-    not_read_lem
-    (λ id no e. not_read_lem (sym (ap is_read (no.message b)) ∙ e))
-    id
-  where
-    pair : (at : ℕ) → station (get_or b at 0) (get_or b (at + 1) 0) ≡ station (number_at 1 at b) (number_at 1 (at + 1) b)
-    pair at = λ i. station (sym (number_one at b) i) (sym (number_one (at + 1) b) i)
-
--- SET_CURRENT has no kind: the byte named is past its full length
-kind_row : (id : ℕ) (p b : Bytes) → Owned (layout_of id).full p b → is_read (decode id b) ≡ true → get_or b (get_or kinds (row_of id) 0) 0 ≡ kind_of (decode id b)
-unfolding row_of layout_of decode message_of values
-kind_row id p b =
-    by_row (λ id. Owned (layout_of id).full p b → is_read (decode id b) ≡ true → get_or b (get_or kinds (row_of id) 0) 0 ≡ kind_of (decode id b))
-    (λ own e. sym (number_one 6 b))
-    (λ own e. own.byte none (lit< tt) ∙ get_or-eq_default (take 4 p) 0 (omega (arith, length-take 4 p)))
-    (λ own e. not_read_lem e)
-    (λ own e. sym (number_one 2 b))
-    (λ own e. sym (number_one 4 b))
-    (λ own e. sym (number_one 2 b))
-    (λ own e. sym (number_one 3 b))
-    (λ own e. sym (number_one 4 b))
-    (λ own e. sym (number_one 37 b))
-    (λ own e. not_read_lem e)
-    (λ id no own e. not_read_lem (sym (ap is_read (no.message b)) ∙ e))
-    id
-
--- each number of a column is that of a byte that is there
-
-abbrev below : ℕ → List ℕ → Bool
-below limit [] = true
-below limit (n ∷ ns) = ltb n limit && below limit ns
-
-all_below : (limit : ℕ) (ns : List ℕ) (k : ℕ) → T (below limit ns) → 0 < limit → get_or ns k 0 < limit
-all_below limit [] k t some = some
-all_below limit (n ∷ ns) zero t some = ltb→lt n limit (left (ltb n limit) (below limit ns) t)
-all_below limit (n ∷ ns) (suc k) t some = all_below limit ns k (right (ltb n limit) (below limit ns) t) some
-
-pub component_there : (id : ℕ) (row : Row) → row ≡ row_at (row_of id) → row.target + 1 < item_bytes
-component_there id row e = omega (arith, ap (λ (r : Row). r.target) e, all_below (item_bytes - 1) targets (row_of id) tt (lit< tt))
-
-pub target_there : (id : ℕ) (row : Row) → row ≡ row_at (row_of id) → row.target < item_bytes
-target_there id row e = omega (arith, component_there id row e)
-
-pub kind_there : (id : ℕ) (row : Row) → row ≡ row_at (row_of id) → row.kind < item_bytes
-kind_there id row e = omega (arith, ap (λ (r : Row). r.kind) e, all_below item_bytes kinds (row_of id) tt (lit< tt))
 
 -- ---- a message has all its fields within its full length
 
@@ -206,27 +141,18 @@ decode_own id p b own read =
 
 -- ---- what is received, by the row of an id and the bytes that are its own
 
-abbrev received_by : (id : ℕ) → Row → Bytes → Received
-received_by id row b =
+pub received : {id : ℕ} {row : Option Row} {r : Row} {at : HeadAt} {p b : Bytes} {kind : ℕ}
+    → IsRowOf id row → row ≡ Some r → r.head ≡ Some at → Owned r.full p b → kind ≡ kind_in b at.kind
+    → ReadAs id p (Some (record { head = record { system = get_or b at.target 0; component = get_or b (at.target + 1) 0; kind = kind }; own = b }))
+received {id} {row} {r} {at} {p} {b} {kind} of is there part of_kind =
+    let placed : head_at row ≡ Some at = ap head_at is ∙ there in
+    let full : r.full ≡ (layout_of id).full = sym (ap full_in is) ∙ of.full in
+    let own : Owned (layout_of id).full p b = subst (λ (n : ℕ). Owned n p b) full part in
+    let read : true ≡ is_read (decode id p) = sym (ap is_some placed) ∙ of.read p in
+    let same : decode id b ≡ decode id p = decode_own id p b own (sym read) in
+    let head : head_in b at ≡ head_of (decode id b) = subst (λ (o : Option HeadAt). IfSome o (λ a. (q : Bytes) → head_in q a ≡ head_of (decode id q))) placed of.head b in
     record {
-      read = read_by id row;
-      head = record { system = get_or b row.target 0; component = get_or b (row.target + 1) 0; kind = get_or b row.kind 0 };
-      own = b;
+      read = read;
+      decodes = same;
+      heads = (λ i. record { system = get_or b at.target 0; component = get_or b (at.target + 1) 0; kind = of_kind i }) ∙ head ∙ ap head_of same;
     }
-
-pub received : (id : ℕ) (row : Row) (p b : Bytes) → row ≡ row_at (row_of id) → Owned row.full p b → ReadAs id p (received_by id row b)
-received id row p b e = subst (λ (r : Row). Owned r.full p b → ReadAs id p (received_by id r b)) (sym e) at_row
-  where
-    at_row : Owned (get_or fulls (row_of id) 0) p b → ReadAs id p (received_by id (row_at (row_of id)) b)
-    at_row part =
-        let own : Owned (layout_of id).full p b = subst (λ (n : ℕ). Owned n p b) (full_row id) part in
-        let same : read_by id (row_at (row_of id)) ≡ true → decode id b ≡ decode id p = λ is. decode_own id p b own (sym (read_row id p) ∙ is) in
-        let read : read_by id (row_at (row_of id)) ≡ true → is_read (decode id b) ≡ true = λ is. ap is_read (same is) ∙ sym (read_row id p) ∙ is in
-        record {
-          read = read_row id p;
-          decodes = same;
-          heads =
-              λ is.
-              (λ i. record { system = (target_row id b (read is) i).system; component = (target_row id b (read is) i).component; kind = kind_row id p b own (read is) i })
-              ∙ ap head_of (same is);
-        }

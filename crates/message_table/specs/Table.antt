@@ -1,41 +1,13 @@
--- A message's row in the table of layouts, what the table's other columns say: read here or not, target, kind; and a payload as it is read.
-use Rattle.std.specs.Prelude.{ℕ, suc, ◌<◌, ◌≡◌, List, [], ◌∷◌, ◌++◌, map, Bool, true, false, cond, eqb, ltb, length, get_or, take}
+-- What a row of the table says of a message, which messages are read here, their target and kind; and a payload as it is read.
+use Rattle.std.specs.Prelude.{ℕ, ◌+◌, ◌<◌, ◌≡◌, Bool, true, false, get_or, take, Option, None, Some, is_some, IfSome}
 use Rattle.rules.specs.Limits.{flight, item_bytes}
 use Rattle.rules.specs.Payload.{Bytes}
-use Rattle.rules.specs.Layouts.{Layout, layouts}
+use Rattle.rules.specs.Layouts.{layout_of}
+use Rattle.message_table.specs.declared.HeadAt.{HeadAt}
 use Rattle.message_table.specs.declared.Row.{Row}
 use Rattle.message_table.specs.declared.Head.{Head}
 use Rattle.message_table.specs.declared.Received.{Received}
 use Rattle.rules.specs.Messages.{decode, Station, station, Message, partial_list, set_current, current, request_list, count, clear_all, ack, request_int, item_int, statustext, unknown}
-
-abbrev pub ids : List ℕ
-ids = map (λ (l : Layout). l.id) layouts
-
--- the number of the first row with an id; the number of rows where there is none
-abbrev pub row_in : List ℕ → ℕ → ℕ
-row_in [] id = 0
-row_in (n ∷ ns) id = cond (eqb n id) 0 (suc (row_in ns id))
-
-unfoldable pub row_of : ℕ → ℕ
-row_of id = row_in ids id
-
--- the columns of the table: of each layout a number, and one for every id that has none
-abbrev pub fulls : List ℕ
-fulls = map (λ (l : Layout). l.full) layouts ++ (0 ∷ [])
-
--- where there is no such field: of messages that are read only in SET_CURRENT, which has no kind, and whose bytes end before it
-abbrev pub none : ℕ
-none = 36
-
--- where the target's system stands, and the kind
-abbrev pub targets : List ℕ
-targets = 4 ∷ 2 ∷ none ∷ 0 ∷ 2 ∷ 0 ∷ 0 ∷ 2 ∷ 32 ∷ none ∷ none ∷ []
-
-abbrev pub kinds : List ℕ
-kinds = 6 ∷ none ∷ none ∷ 2 ∷ 4 ∷ 2 ∷ 3 ∷ 4 ∷ 37 ∷ none ∷ none ∷ []
-
-abbrev pub row_at : ℕ → Row
-row_at k = record { full = get_or fulls k 0; target = get_or targets k 0; kind = get_or kinds k 0; listed = ltb k (length ids) }
 
 -- "Ids 42 and 253 are only written."
 abbrev pub is_read : Message → Bool
@@ -82,6 +54,37 @@ kind_of unknown = flight
 abbrev pub head_of : Message → Head
 head_of m = record { system = (target_of m).system; component = (target_of m).component; kind = kind_of m }
 
+-- ---- the row of an id
+
+-- the kind in a message's bytes: flight where it has no such field
+abbrev pub kind_in : Bytes → Option ℕ → ℕ
+kind_in b None = flight
+kind_in b (Some at) = get_or b at 0
+
+-- the head in a message's bytes
+abbrev pub head_in : Bytes → HeadAt → Head
+head_in b at = record { system = get_or b at.target 0; component = get_or b (at.target + 1) 0; kind = kind_in b at.kind }
+
+-- a place at which a head stands is within the bytes that a message has that is read
+pub record Within (at : HeadAt) : Type 0 where
+  pub target : at.target + 1 < item_bytes
+  pub kind : IfSome at.kind (λ k. k < item_bytes)
+
+abbrev pub full_in : Option Row → ℕ
+full_in None = 0
+full_in (Some row) = row.full
+
+abbrev pub head_at : Option Row → Option HeadAt
+head_at None = None
+head_at (Some row) = row.head
+
+-- a row, or none, is that of an id: its full length, whether its messages are read, and which bytes of these are their head
+pub record IsRowOf (id : ℕ) (row : Option Row) : Type 0 where
+  pub full : full_in row ≡ (layout_of id).full
+  pub read : (p : Bytes) → is_some (head_at row) ≡ is_read (decode id p)
+  pub head : IfSome (head_at row) (λ at. (b : Bytes) → head_in b at ≡ head_of (decode id b))
+  pub within : IfSome (head_at row) (λ at. Within at)
+
 -- ---- a payload as it is read
 
 -- "missing bytes are zero", "bytes past the full length are ignored": the bytes b, as many as the longest message has that is read, are those of a payload up to
@@ -89,8 +92,8 @@ head_of m = record { system = (target_of m).system; component = (target_of m).co
 pub record Owned (full : ℕ) (p b : Bytes) : Type 0 where
   pub byte : (i : ℕ) → i < item_bytes → get_or b i 0 ≡ get_or (take full p) i 0
 
--- what is received is what the payload says
-pub record ReadAs (id : ℕ) (p : Bytes) (r : Received) : Type 0 where
-  pub read : r.read ≡ is_read (decode id p)
-  pub decodes : r.read ≡ true → decode id r.own ≡ decode id p
-  pub heads : r.read ≡ true → r.head ≡ head_of (decode id p)
+-- what is received is what the payload says, and there is something where its message is read here
+pub record ReadAs (id : ℕ) (p : Bytes) (r : Option Received) : Type 0 where
+  pub read : is_some r ≡ is_read (decode id p)
+  pub decodes : IfSome r (λ got. decode id got.own ≡ decode id p)
+  pub heads : IfSome r (λ got. got.head ≡ head_of (decode id p))

@@ -35,9 +35,9 @@ item_turns kind from t = turns t.store kind from t.turned
 abbrev pub plan_among : List Plan → (kind : ℕ) → Plan
 plan_among ps kind = get_or ps kind empty_plan
 
--- p is the plan of a kind among the three, where there is such a kind
-abbrev pub IsPlanOf : (kind : ℕ) → Plan → (flight fence rally : Plan) → Type 0
-IsPlanOf kind p a b c = kind ≤ rally → p ≡ plan_among (a ∷ b ∷ c ∷ []) kind
+-- p is the plan of a kind among those of all, where there is such a kind
+abbrev pub IsPlanOf : (kind : ℕ) → Plan → List Plan → Type 0
+IsPlanOf kind p ps = kind ≤ rally → p ≡ plan_among ps kind
 
 -- ---- clears
 

@@ -1,12 +1,12 @@
 -- The refusal of a call as a number, and what a call that is not refused says: its request, with room in store and reply buffer.
-use Rattle.std.specs.Prelude.{◌≡◌, refl, Bool, true, false, not, cond, ◌&&◌, ℕ, ◌≤◌, length, eqb, ltb}
+use Rattle.std.specs.Prelude.{◌≡◌, refl, Bool, true, false, not, cond, ◌&&◌, ℕ, ◌≤◌, length, eqb, ltb, Option, is_some, IfSome}
 use Rattle.std.proofs.Common.{◌∙◌, sym, ap, arith, ltb-false, leb-true, eqb-true, le-ltb, le-leb}
 use Rattle.std.proofs.lemmas.Bool.{eqb-false, not-false}
 use Rattle.rules.specs.Limits.{rally, store_words, reply_bytes_min, short_store, out_of_range, short_reply, empty_payload, not_read, not_for_us}
 use Rattle.rules.specs.Payload.{Bytes}
 use Rattle.rules.specs.Messages.{Station, Message, partial_list, set_current, current, request_list, count, clear_all, ack, request_int, item_int, statustext, unknown, decode}
 use Rattle.rules.specs.Calls.{message, timer, done, Request, chooses, asks_list, announces, changes, clears, acknowledges, asks_item, brings, Heard, refuses, request, expiry, command_done, ours_or_all, for_us, heard_message, heard, is_known}
-use Rattle.message_table.specs.declared.Head.{Head}
+use Rattle.message_table.specs.declared.Received.{Received}
 use Rattle.message_table.specs.Table.{is_read, target_of, kind_of, head_of}
 
 -- the outcome of a refused call; 0 of any other
@@ -38,9 +38,9 @@ request_of (statustext severity text id chunk) = asks_list
 request_of unknown = asks_list
 
 -- of a payload p it is known whether its message is read here, and where it is, its head
-pub record HeadRead (id : ℕ) (p : Bytes) (read : Bool) (head : Head) : Type 0 where
-  pub is_read : read ≡ is_read (decode id p)
-  pub heads : read ≡ true → head ≡ head_of (decode id p)
+pub record HeadRead (id : ℕ) (p : Bytes) (received : Option Received) : Type 0 where
+  pub is_read : is_some received ≡ is_read (decode id p)
+  pub heads : IfSome received (λ got. got.head ≡ head_of (decode id p))
 
 -- 14, 15 and 10 in their order; 0 where there is room and every number is in its range
 unfoldable pub room_refusal : (ranged : Bool) (store reply : ℕ) → ℕ

@@ -1,7 +1,7 @@
 // The refusals of each call, tested in their order: 14, 15, 10, 11, 12, 13.
 #![tactic(auto)]
 
-ghost use Rattle.std.specs.Prelude.{◌≡◌, ℕ, length};
+ghost use Rattle.std.specs.Prelude.{◌≡◌, ℕ, length, Some, IfOk};
 ghost use Rattle.rules.specs.Payload.{Bytes};
 ghost use Rattle.rules.specs.Messages.{Station, station};
 ghost use Rattle.rules.specs.Calls.{message, timer, done, heard, ours_or_all};
@@ -9,7 +9,7 @@ ghost use Rattle.limits.specs.Codes.{outcome_code};
 ghost use Rattle.refusal.specs.Refusals.{refusal_of, room_refusal, HeadRead};
 
 use limits::{RALLY, REPLY_BYTES, Refusal, STORE_WORDS};
-use message_table::Head;
+use message_table::Received;
 
 // A target number that is ours, or 0 for all.
 fn ours_or_all(own: u8, target: u8) -> bool
@@ -42,7 +42,7 @@ fn room_refusal(ranged: bool, store_len: usize, reply_len: usize) -> Result<(), 
     Ok(())
 }
 
-// A message call with a payload of some bytes; whether its message is read here, and its head.
+// A message call with a payload of some bytes, and what was received, where its message is read here: given back where the call is not refused.
 pub fn message_refusal(
     ranged: bool,
     store_len: usize,
@@ -50,22 +50,21 @@ pub fn message_refusal(
     own_system: u8,
     own_component: u8,
     payload_len: usize,
-    read: bool,
-    head: Head,
-) -> Result<(), Refusal>
-    ensures { (from : Station) (id : ℕ) (p : Bytes) (clock : ℕ) → length p ≡ payload_len → HeadRead id p read head → outcome_code result ≡ refusal_of (heard ranged (message (station own_system own_component) from id p clock store_len reply_len)) }
+    received: Option<Received>,
+) -> Result<Received, Refusal>
+    ensures outcome { (from : Station) (id : ℕ) (p : Bytes) (clock : ℕ) → length p ≡ payload_len → HeadRead id p received → outcome_code result ≡ refusal_of (heard ranged (message (station own_system own_component) from id p clock store_len reply_len)) }
+    ensures given { IfOk result (λ got. received ≡ Some got) }
 {
     room_refusal(ranged, store_len, reply_len)?;
     if payload_len == 0 {
         return Err(Refusal::EmptyPayload);
     }
-    if !read {
-        return Err(Refusal::NotRead);
-    }
+    let got = received.ok_or(Refusal::NotRead)?;
+    let head = got.head;
     if !(ours_or_all(own_system, head.system) & ours_or_all(own_component, head.component)) {
         return Err(Refusal::NotForUs);
     }
-    Ok(())
+    Ok(got)
 }
 
 // Timer calls skip 11 and 13.

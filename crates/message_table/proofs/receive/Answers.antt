@@ -1,17 +1,11 @@
 -- `message_table::receive` meets its contract: the row of the id says whether it is read, and which of its own bytes are its head.
-use Rattle.message_table.proofs.Rows.{target_there, component_there, kind_there, received}
-use borrow.Author.Rules.{rules}
+use mathlib.Core.Path.{ap, sym}
+use Rattle.message_table.specs.Table.{kind_in}
+use Rattle.message_table.proofs.Rows.{received}
 use Rattle.message_table.proofs.receive.Goals as goal
 
--- of a message that is read, the row names the bytes of its head
-pub returns : goal.returns
-returns c = search (received, rules)
+pub returns-in-Some : goal.returns-in-Some
+returns-in-Some c = received c.row_of.ensures c.in_ok-row.was c.in_ok-at.was c.own_bytes-own.ensures (sym (ap (kind_in c.own_bytes-own.result) c.in-Some.is))
 
-pub bounds-own-target : goal.bounds-own-target
-bounds-own-target c = search (target_there, rules)
-
-pub bounds-own-target-2 : goal.bounds-own-target-2
-bounds-own-target-2 c = search (component_there, rules)
-
-pub bounds-own-row : goal.bounds-own-row
-bounds-own-row c = search (kind_there, rules)
+pub returns-in-None : goal.returns-in-None
+returns-in-None c = received c.row_of.ensures c.in_ok-row.was c.in_ok-at.was c.own_bytes-own.ensures (sym (ap (kind_in c.own_bytes-own.result) c.in-None.is))

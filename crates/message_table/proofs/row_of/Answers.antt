@@ -1,48 +1,51 @@
--- `message_table::row_of` meets its contract: each test that holds says which row it is, and where none holds the id has no row.
+-- `message_table::row_of` meets its contract: each arm is the row of its id, and an id that has no arm has no row.
+use mathlib.Core.Path.{refl}
+use lib.Dec.{lit<}
 use borrow.Author.Rules.{rules}
-use Rattle.message_table.specs.Table.{row_of}
-use Rattle.message_table.proofs.Rows.{found, missed}
+use Rattle.rules.specs.Layouts.{layout_of, values}
+use Rattle.rules.specs.Messages.{message_of, decode}
+use Rattle.message_table.proofs.Rows.{found, missed, heads, heads_no_kind}
 use Rattle.message_table.proofs.row_of.Goals as goal
 
-pub returns-then-id : goal.returns-then-id
-unfolding row_of
-returns-then-id c = found _ _ _ c.if-id.true c.row_at.ensures
+pub returns-in-38 : goal.returns-in-38
+unfolding layout_of decode message_of values
+returns-in-38 c = found c.in-38.is c.read.ensures (record { full = refl; read = λ p. refl; head = heads _ _; within = record { target = lit< tt; kind = lit< tt } })
 
-pub returns-then-id-2 : goal.returns-then-id-2
-unfolding row_of
-returns-then-id-2 c = found _ _ _ c.if-id-2.true c.row_at-then-id-2.ensures
+pub returns-in-41 : goal.returns-in-41
+unfolding layout_of decode message_of values
+returns-in-41 c = found c.in-41.is c.read-in-41.ensures (record { full = refl; read = λ p. refl; head = heads_no_kind _; within = record { target = lit< tt; kind = tt } })
 
-pub returns-then-id-3 : goal.returns-then-id-3
-unfolding row_of
-returns-then-id-3 c = found _ _ _ c.if-id-3.true c.row_at-then-id-3.ensures
+pub returns-in-42 : goal.returns-in-42
+unfolding layout_of decode message_of values
+returns-in-42 c = found c.in-42.is c.only_written.ensures (record { full = refl; read = λ p. refl; head = tt; within = tt })
 
-pub returns-then-id-4 : goal.returns-then-id-4
-unfolding row_of
-returns-then-id-4 c = found _ _ _ c.if-id-4.true c.row_at-then-id-4.ensures
+pub returns-in-43 : goal.returns-in-43
+unfolding layout_of decode message_of values
+returns-in-43 c = found c.in-43.is c.read-in-43.ensures (record { full = refl; read = λ p. refl; head = heads _ _; within = record { target = lit< tt; kind = lit< tt } })
 
-pub returns-then-id-5 : goal.returns-then-id-5
-unfolding row_of
-returns-then-id-5 c = found _ _ _ c.if-id-5.true c.row_at-then-id-5.ensures
+pub returns-in-44 : goal.returns-in-44
+unfolding layout_of decode message_of values
+returns-in-44 c = found c.in-44.is c.read-in-44.ensures (record { full = refl; read = λ p. refl; head = heads _ _; within = record { target = lit< tt; kind = lit< tt } })
 
-pub returns-then-id-6 : goal.returns-then-id-6
-unfolding row_of
-returns-then-id-6 c = found _ _ _ c.if-id-6.true c.row_at-then-id-6.ensures
+pub returns-in-45 : goal.returns-in-45
+unfolding layout_of decode message_of values
+returns-in-45 c = found c.in-45.is c.read-in-45.ensures (record { full = refl; read = λ p. refl; head = heads _ _; within = record { target = lit< tt; kind = lit< tt } })
 
-pub returns-then-id-7 : goal.returns-then-id-7
-unfolding row_of
-returns-then-id-7 c = found _ _ _ c.if-id-7.true c.row_at-then-id-7.ensures
+pub returns-in-47 : goal.returns-in-47
+unfolding layout_of decode message_of values
+returns-in-47 c = found c.in-47.is c.read-in-47.ensures (record { full = refl; read = λ p. refl; head = heads _ _; within = record { target = lit< tt; kind = lit< tt } })
 
-pub returns-then-id-8 : goal.returns-then-id-8
-unfolding row_of
-returns-then-id-8 c = found _ _ _ c.if-id-8.true c.row_at-then-id-8.ensures
+pub returns-in-51 : goal.returns-in-51
+unfolding layout_of decode message_of values
+returns-in-51 c = found c.in-51.is c.read-in-51.ensures (record { full = refl; read = λ p. refl; head = heads _ _; within = record { target = lit< tt; kind = lit< tt } })
 
-pub returns-then-id-9 : goal.returns-then-id-9
-unfolding row_of
-returns-then-id-9 c = found _ _ _ c.if-id-9.true c.row_at-then-id-9.ensures
+pub returns-in-73 : goal.returns-in-73
+unfolding layout_of decode message_of values
+returns-in-73 c = found c.in-73.is c.read-in-73.ensures (record { full = refl; read = λ p. refl; head = heads _ _; within = record { target = lit< tt; kind = lit< tt } })
 
-pub returns-then-id-10 : goal.returns-then-id-10
-unfolding row_of
-returns-then-id-10 c = found _ _ _ c.if-id-10.true c.row_at-then-id-10.ensures
+pub returns-in-253 : goal.returns-in-253
+unfolding layout_of decode message_of values
+returns-in-253 c = found c.in-253.is c.only_written-in-253.ensures (record { full = refl; read = λ p. refl; head = tt; within = tt })
 
-pub returns : goal.returns
-returns c = search (missed, rules)
+pub returns-in_default : goal.returns-in_default
+returns-in_default c = search (missed, rules)

@@ -1,5 +1,5 @@
 -- `item::payload::item_at` meets its contract: the item is made of the numbers at its fields' offsets.
-use mathlib.Core.Path.{sym}
+use mathlib.Core.Path.{sym, ◌∙◌}
 use Rattle.rules.specs.Layouts.{layout_of, values}
 use Rattle.rules.specs.Messages.{item_in}
 use Rattle.item.specs.Patterns.{item_for}
@@ -9,7 +9,8 @@ use Rattle.item.proofs.payload.item_at.Goals as goal
 pub returns : goal.returns
 unfolding item_in layout_of values
 returns c = let p = c.args.p.now in
-    λ i. item_for (record {
+    c.made.ensures
+    ∙ (λ i. item_for (record {
       param1 = c.u32_at.ensures i;
       param2 = c.u32_at-2.ensures i;
       param3 = c.u32_at-3.ensures i;
@@ -22,4 +23,4 @@ returns c = let p = c.args.p.now in
       frame = sym (number_one 34 p) i;
       autocontinue = sym (number_one 36 p) i;
       kind = sym (number_one 37 p) i;
-    })
+    }))
