@@ -40,6 +40,7 @@ impl Running {
     }
 
     // The result for an item as the next of the upload, whose items taken stand in the half that the plan is not in.
+    #[tactic(auto, using(crate::proofs::Room::fault_room), unfolding(rules::specs::Model::verdict_on))]
     fn verdict(self, home: bool, store: &[u32], item: Item) -> Result<(), Fault>
         requires { store_words ≤ length store.now }
         ensures { result_code result ≡ verdict_on home self.kind (task_in self.run) self.run.next (drop self.run.first (items_in words store.now (not self.plan.half) self.kind self.run.next)) (patterns item) }
@@ -49,6 +50,7 @@ impl Running {
     }
 
     // An item from a station: Ok where it is valid and the next; otherwise what it does, which leaves the store as it is.
+    #[tactic(auto, using(crate::proofs::Faults::not_accepted, crate::proofs::Faults::is_accepted, upload::specs::Faults::named_as), unfolding(crate::specs::Judging::judged_as))]
     fn judge(self, home: bool, store: &[u32], from: Station, item: Item) -> Result<(), Turned>
         requires { store_words ≤ length store.now }
         ensures { result ≡ judged_as home store.now self.kind self.plan self.run (station from.system from.component) (patterns item) }
@@ -59,11 +61,14 @@ impl Running {
         if item.seq != self.run.next {
             return Err(keeps(Say::Ask(self.run.next)));
         }
-        self.verdict(home, store, item)
-            .map_err(|fault| moves(ended(self.plan), Say::Ack(Err(fault))))
+        if let Err(fault) = self.verdict(home, store, item) {
+            return Err(moves(ended(self.plan), Say::Ack(Err(fault))));
+        }
+        Ok(())
     }
 
     // The upload has its last item: to those of a part the plan's other items are put, from the half that the plan stands in.
+    #[tactic(auto, unfolding(upload::specs::Turns::settled, places::specs::Carried::filled))]
     fn settle(self, store: &mut [u32])
         requires { store_words ≤ length store.old }
         ensures { store.new ≡ settled words store.old self.kind self.plan self.run }
@@ -93,6 +98,7 @@ impl Running {
     }
 
     // The result for the items of the upload as a whole, with those that a part leaves.
+    #[tactic(auto, unfolding(rules::specs::Model::whole_fault))]
     fn whole_fault(self, store: &[u32]) -> Result<(), Fault>
         requires { store_words ≤ length store.now }
         ensures { result_code result ≡ whole_fault self.kind (task_in self.run) (items_in words store.now (not self.plan.half) self.kind self.run.count) }
@@ -107,6 +113,7 @@ impl Running {
     }
 
     // The upload's last item is in the store: the plan is replaced, or the whole is refused.
+    #[tactic(auto, using(crate::proofs::Faults::not_accepted, crate::proofs::Faults::is_accepted, upload::specs::Faults::named_as), unfolding(upload::specs::Turns::last_turned))]
     fn last_turn(self, store: &mut [u32]) -> Turned
         requires { store_words ≤ length store.old }
         ensures { turn_with result store.new ≡ turn_with (last_turned words (settled words store.old self.kind self.plan self.run) self.kind self.plan self.run) (settled words store.old self.kind self.plan self.run) }
@@ -120,6 +127,7 @@ impl Running {
     }
 
     // A valid item is in the store: the next is asked for, if it is not the last.
+    #[tactic(auto, unfolding(upload::specs::Turns::valid_item_turned))]
     fn valid_turn(self, store: &mut [u32], clock: u32) -> Turned
         requires { store_words ≤ length store.old }
         ensures { turn_with result store.new ≡ valid_item_turned words store.old self.kind self.plan self.run clock }
@@ -139,6 +147,7 @@ impl Running {
 }
 
 // ITEM_INT from a station. Only a valid item changes the store, at the upload's next place in the other half; the last of a part, at all places of the plan there.
+#[tactic(auto, using(crate::specs::Judging::turned_judged), unfolding(upload::specs::Turns::item_turned))]
 pub fn take_item(
     home: bool,
     plan: Plan,
