@@ -76,12 +76,7 @@ impl Flight<'_> {
         if !item.is_jump() {
             return Some(Met::Stands(n, command_of(n, item)));
         }
-        jump_look(
-            item::repeat_of(item),
-            item::number1(item) as u16,
-            j,
-            counts[j as usize],
-        )
+        jump_look(item.repeat(), item.number1() as u16, j, counts[j as usize])
     }
 
     // From item n on, with j jumps before it.

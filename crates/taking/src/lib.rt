@@ -40,7 +40,6 @@ impl Running {
     }
 
     // The result for an item as the next of the upload, whose items taken stand in the half that the plan is not in.
-    #[tactic(auto, using(crate::proofs::Room::fault_room), unfolding(rules::specs::Model::verdict_on))]
     fn verdict(self, home: bool, store: &[u32], item: Item) -> Result<(), Fault>
         requires { store_words ≤ length store.now }
         ensures { result_code result ≡ verdict_on home self.kind (task_in self.run) self.run.next (drop self.run.first (items_in words store.now (not self.plan.half) self.kind self.run.next)) (patterns item) }
@@ -55,7 +54,7 @@ impl Running {
         requires { store_words ≤ length store.now }
         ensures { result ≡ judged_as home store.now self.kind self.plan self.run (station from.system from.component) (patterns item) }
     {
-        if self.run.from != from {
+        if from != self.run.from {
             return Err(keeps(Say::Ack(Err(Fault::Denied))));
         }
         if item.seq != self.run.next {
@@ -75,7 +74,13 @@ impl Running {
     {
         if self.run.partial {
             carry_items(store, self.kind, self.plan.half, 0, self.run.first);
-            carry_items(store, self.kind, self.plan.half, self.run.last + 1, self.run.count);
+            carry_items(
+                store,
+                self.kind,
+                self.plan.half,
+                self.run.last + 1,
+                self.run.count,
+            );
         }
     }
 

@@ -1,17 +1,23 @@
 -- The range of the upload's numbers is that of the run; what is judged decides the step.
 use mathlib.Core.Path.{◌≡◌, ◌∙◌, sym, ap}
-use mathlib.Core.Bool.{Bool, true, false, not, ◌&&◌}
-use Prim.Native.Nat.{ℕ, ◌≤◌, ◌<◌}
+use mathlib.Core.Bool.{Bool, true, ◌&&◌}
+use Prim.Native.Nat.{ℕ, ◌≤◌}
 use lib.Dec.{leb}
 use borrow.Author.Tests.{leb-true}
-use Rattle.std.specs.Prelude.{Option, Some}
-use Rattle.rules.specs.Limits.{rally, size_of, max_repeats}
+use Rattle.std.specs.Prelude.{Option, Some, Result}
+use Rattle.rules.specs.Messages.{Station, Item}
+use Rattle.places.specs.Forms.{Store, words}
+use Rattle.plan.specs.declared.Plan.{Plan}
+use Rattle.upload.specs.declared.Turned.{Turned}
+use Rattle.upload.specs.Turns.{item_turned, valid_item_turned}
+use Rattle.taking.specs.Judging.{judged_as, turned_as, turned_judged}
+use Rattle.rules.specs.Limits.{size_of, max_repeats}
 use Rattle.rules.specs.Model.{task_in_range}
 use Rattle.rule_laws.specs.Tests.{both}
 use Rattle.rule_laws.specs.Tasks.{TaskRanges, task_ranges}
 use Rattle.plan.specs.declared.Run.{Run}
 use Rattle.plan.specs.View.{task_in}
-use Rattle.ranges.specs.Ranges.{run_ranged, upload_ranged}
+use Rattle.ranges.specs.Ranges.{run_ranged}
 use Rattle.taking.proofs.take_item.Goals as goal
 
 -- what the range of a running upload tells, beside a plan of `len` items
@@ -43,3 +49,20 @@ invariant_of-upload c =
       inside = t.inside;
       from_start = t.from_start;
     }
+
+module _ (home : Bool) (s : Store) (kind : ℕ) (p : Plan) (r : Run) (from : Station) (now : ℕ) (item : Item) (is : p.upload ≡ Some r) where
+  step : (j : Result (Unit {0}) Turned) → j ≡ judged_as home s kind p r from item → item_turned words home s kind p.upload p from now item ≡ turned_as j s kind p r now item
+  step j e =
+      ap (λ (u : Option Run). item_turned words home s kind u p from now item) is
+      ∙ turned_judged home s kind p r from now item
+      ∙ ap (λ (x : Result (Unit {0}) Turned). turned_as x s kind p r now item) (sym e)
+
+pub returns-in-Err : goal.returns-in-Err
+returns-in-Err c = sym (step _ _ _ _ _ _ _ _ c.in-Some.is _ (sym c.in-Err.is ∙ c.judge.ensures))
+
+pub returns : goal.returns
+returns c =
+    let a = c.args in
+    c.valid_turn.ensures
+    ∙ ap (λ (s : Store). valid_item_turned words s a.kind a.plan c.in-Some.run' a.clock) c.keep.ensures.0
+    ∙ sym (step _ _ _ _ _ _ _ _ c.in-Some.is _ (sym c.in_default-judge.is ∙ c.judge.ensures))
