@@ -8,12 +8,10 @@ use Rattle.rules.specs.Payload.{Bytes}
 use Rattle.rules.specs.Messages.{Item}
 use Rattle.rules.specs.Items.{is_jump, jumps_among, fault}
 use Rattle.rules.specs.Model.{Task, verdict_on}
-use Rattle.plan.specs.declared.Run.{Run}
+use Rattle.item.specs.Patterns.{patterns}
 use Rattle.plan.specs.View.{task_in}
-use Rattle.taking.specs.Judging.{InRange, next_upto}
 use Rattle.taking.proofs.Room.{fault_room}
-use borrow.Author.Rules.{rules}
-use Rattle.taking.proofs.result_of.Goals as goal
+use Rattle.taking.proofs.running.Running.verdict.Goals as goal
 
 module _ (home : Bool) (kind : ℕ) (t : Task) (next : ℕ) (items : List Bytes) (i : Item) (start : t.partial ≡ false → t.first ≡ 0) where
   same_fault : fault home kind t.count next (cond (is_jump i && not t.partial) (jumps_among items) 0) i ≡ verdict_on home kind t next (drop t.first items) i
@@ -28,17 +26,9 @@ module _ (home : Bool) (kind : ℕ) (t : Task) (next : ℕ) (items : List Bytes)
           ∙ fault_room kind t.count next (jumps_among items) i home
           ∙ ap (λ (n : ℕ). fault home kind t.count next (jumps_among (drop n items)) i) (sym (start e))
 
-  verdict_is : (before result : ℕ) → before ≡ cond (is_jump i && not t.partial) (jumps_among items) 0 → result ≡ fault home kind t.count next before i
-      → result ≡ verdict_on home kind t next (drop t.first items) i
-  verdict_is before result eb er = er ∙ ap (λ (n : ℕ). fault home kind t.count next n i) eb ∙ same_fault
-
-in_range_lem : (home : Bool) (size len kind : ℕ) (r : Run) (items : List Bytes) (i : Item) (before result : ℕ) → InRange size len r
-    → before ≡ cond (is_jump i && not r.partial) (jumps_among items) 0 → result ≡ fault home kind r.count r.next before i
-    → result ≡ verdict_on home kind (task_in r) r.next (drop r.first items) i
-in_range_lem home size len kind r items i before result h eb er = verdict_is home kind (task_in r) r.next items i h.task.from_start before result eb er
-
-pub jumps_before-before-requires : goal.jumps_before-before-requires
-jumps_before-before-requires c = search (next_upto, rules)
-
 pub returns : goal.returns
-returns c = search (in_range_lem, rules)
+returns c =
+    let r = c.args.self.run in
+    c.verdict.ensures
+    ∙ ap (λ (n : ℕ). fault c.args.home c.args.self.kind r.count r.next n (patterns c.args.item)) c.jumps_before-before.ensures
+    ∙ same_fault c.args.home c.args.self.kind (task_in r) r.next _ (patterns c.args.item) c.args.self.from_start
