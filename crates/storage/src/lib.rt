@@ -3,19 +3,21 @@
 #![tactic(auto)]
 
 ghost use Rattle.std.specs.Prelude.{◌≡◌, ◌+◌, ◌-◌, ◌≤◌, ◌<◌, length};
-ghost use Rattle.rules.specs.Limits.{rally, size_of, item_words, store_words};
+ghost use Rattle.rules.specs.Limits.{size_of, item_words, store_words};
 ghost use Rattle.rules.specs.Messages.{item_in};
 ghost use Rattle.rules.specs.Words.{words_of, item_of_words, last_word_of};
 ghost use Rattle.item.specs.Patterns.{item_for, patterns};
 ghost use Rattle.places.specs.Part.{part};
+ghost use Rattle.limits.specs.Kinds.{kind_number};
 ghost use Rattle.places.specs.Forms.{words, item_at};
+ghost use Rattle.places.specs.KindItems.{item_with};
 ghost use Rattle.places.specs.Writes.{put_at};
 ghost use Rattle.places.specs.Carried.{carried_at, carried};
 ghost use Rattle.storage.specs.Kept.{at_place};
 
 use item::Item;
-use limits::{AUTOCONTINUE_UNIT, FRAME_UNIT, ITEM_WORDS};
-use places::{place_at, put_item};
+use limits::{AUTOCONTINUE_UNIT, FRAME_UNIT, ITEM_WORDS, Kind};
+use places::{Items, place_at, put_item};
 
 const BYTE_VALUES: u32 = 0x100;
 
@@ -58,17 +60,18 @@ fn words_at(store: &[u32], at: usize) -> [u32; ITEM_WORDS]
 }
 
 // The item with a number.
-pub fn fetch(store: &[u32], kind: u8, half: bool, n: u16) -> Item
-    requires { (store_words ≤ length store.now) × (kind ≤ rally) × (n < size_of kind) }
-    ensures { result ≡ item_for (item_in (item_at words store.now half kind n)) }
+pub fn fetch(items: Items<'_>, n: u16) -> Item
+    requires { n < size_of (kind_number items.kind) }
+    ensures { result ≡ item_for (item_in (item_with items.entry n)) }
 {
-    from_words(words_at(store, place_at(kind, half, n)), kind, n)
+    let stored = words_at(items.store, place_at(items.kind, items.half, n));
+    from_words(stored, items.kind.number(), n)
 }
 
 // The item becomes the one with a number, and is fetched from there as it was kept, with the number and the kind of the place; every other word of the store stays.
-pub fn keep(store: &mut [u32], kind: u8, half: bool, n: u16, item: Item)
-    requires { (store_words ≤ length store.old) × (kind ≤ rally) × (n < size_of kind) }
-    ensures { (store.new ≡ put_at words store.old half kind n (words_of (patterns item))) × (item_in (item_at words store.new half kind n) ≡ at_place kind n (patterns item)) }
+pub fn keep(store: &mut [u32], kind: Kind, half: bool, n: u16, item: Item)
+    requires { (store_words ≤ length store.old) × (n < size_of (kind_number kind)) }
+    ensures { (store.new ≡ put_at words store.old half (kind_number kind) n (words_of (patterns item))) × (item_in (item_at words store.new half (kind_number kind) n) ≡ at_place (kind_number kind) n (patterns item)) }
 {
     let last = last_word(item.command, item.frame, item.autocontinue);
     let kept = [
@@ -85,18 +88,18 @@ pub fn keep(store: &mut [u32], kind: u8, half: bool, n: u16, item: Item)
 }
 
 // The item with a number goes, as it stands in a half, to its place in the other half.
-fn carry(store: &mut [u32], kind: u8, half: bool, n: u16)
-    requires { (store_words ≤ length store.old) × (kind ≤ rally) × (n < size_of kind) }
-    ensures { store.new ≡ carried_at words store.old half kind n }
+fn carry(store: &mut [u32], kind: Kind, half: bool, n: u16)
+    requires { (store_words ≤ length store.old) × (n < size_of (kind_number kind)) }
+    ensures { store.new ≡ carried_at words store.old half (kind_number kind) n }
 {
     let from = place_at(kind, half, n);
     store.copy_within(from..from + ITEM_WORDS, place_at(kind, !half, n));
 }
 
 // The items from number `low` on and below `high` do.
-pub fn carry_items(store: &mut [u32], kind: u8, half: bool, low: u16, high: u16)
-    requires { (store_words ≤ length store.old) × (kind ≤ rally) × (low ≤ high) × (high ≤ size_of kind) }
-    ensures { store.new ≡ carried words store.old half kind low (high - low) }
+pub fn carry_items(store: &mut [u32], kind: Kind, half: bool, low: u16, high: u16)
+    requires { (store_words ≤ length store.old) × (low ≤ high) × (high ≤ size_of (kind_number kind)) }
+    ensures { store.new ≡ carried words store.old half (kind_number kind) low (high - low) }
 {
     for i in low..high {
         carry(store, kind, half, i);

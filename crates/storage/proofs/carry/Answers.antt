@@ -2,6 +2,7 @@
 use Rattle.std.proofs.Common.{◌≡◌, ◌∙◌, sym, ap, ap₂, ◌++◌, Bool, not, ℕ, ◌+◌, ◌-◌, ◌≤◌, length, take, drop, arith}
 use Rattle.std.specs.List.{copy_within}
 use Rattle.rules.specs.Limits.{item_words}
+use Rattle.limits.specs.Kinds.{kind_number, kind_known}
 use Rattle.places.specs.Part.{part, put, length_part_within}
 use Rattle.places.specs.Forms.{Store, words, offset_of}
 use Rattle.places.specs.Places.{offset_within}
@@ -22,18 +23,18 @@ put_over store after half kind n from to within there place is =
 
 pub overflow_add-from : goal.overflow_add-from
 overflow_add-from c = let a = c.args in
-    record { fits = omega (arith, offset_within words words_lawful a.half a.kind a.n (omega arith) (omega arith)) }
+    record { fits = omega (arith, offset_within words words_lawful a.half (kind_number a.kind) a.n (kind_known a.kind) (omega arith)) }
 
 pub copy_within-requires-clause-in_bounds : goal.copy_within-requires-clause-in_bounds
 copy_within-requires-clause-in_bounds c = let a = c.args in
-    omega (arith, offset_within words words_lawful a.half a.kind a.n (omega arith) (omega arith))
+    omega (arith, offset_within words words_lawful a.half (kind_number a.kind) a.n (kind_known a.kind) (omega arith))
 
 pub copy_within-requires-clause-dest_in_bounds : goal.copy_within-requires-clause-dest_in_bounds
 copy_within-requires-clause-dest_in_bounds c = let a = c.args in
-    omega (arith, offset_within words words_lawful a.half a.kind a.n (omega arith) (omega arith), offset_within words words_lawful (not a.half) a.kind a.n (omega arith) (omega arith))
+    omega (arith, offset_within words words_lawful a.half (kind_number a.kind) a.n (kind_known a.kind) (omega arith), offset_within words words_lawful (not a.half) (kind_number a.kind) a.n (kind_known a.kind) (omega arith))
 
 pub returns : goal.returns
 returns c = let a = c.args in
-    put_over a.store.now _ a.half a.kind a.n c.place_at-from.result c.place_at.result
-    (omega (arith, offset_within words words_lawful a.half a.kind a.n (omega arith) (omega arith)))
+    put_over a.store.now _ a.half (kind_number a.kind) a.n c.place_at-from.result c.place_at.result
+    (omega (arith, offset_within words words_lawful a.half (kind_number a.kind) a.n (kind_known a.kind) (omega arith)))
     c.place_at-from.ensures c.place_at.ensures c.copy_within.ensures.after

@@ -1,6 +1,7 @@
 -- The items below i are carried.
 use Rattle.std.proofs.Common.{◌≡◌, ◌∙◌, ap, Bool, ℕ, suc, ◌≤◌, ◌-◌, ◌+◌, arith, length}
 use Rattle.rules.specs.Limits.{rally, size_of, store_words}
+use Rattle.limits.specs.Kinds.{kind_number}
 use Rattle.places.specs.Forms.{Store, words}
 use Rattle.places.proofs.Lawful.{words_lawful}
 use Rattle.places.specs.Carried.{carried_at, carried, carried_leaves}
@@ -23,9 +24,9 @@ carried_long store half kind low i long known from upto = (carried_leaves words 
 pub loop-i-init : goal.loop-i-init
 unfolding carried
 loop-i-init c = let a = c.args in
-    ap (carried words a.store.now a.half a.kind a.low) (let e : 0 ≡ a.low - a.low = omega arith in e)
+    ap (carried words a.store.now a.half (kind_number a.kind) a.low) (let e : 0 ≡ a.low - a.low = omega arith in e)
 
 pub loop-i-preserved : goal.loop-i-preserved
 loop-i-preserved c = let a = c.args in
     let l = c.loop-i in
-    one_more a.store.now l.store _ a.half a.kind a.low l.i (omega arith) l.invariant c.carry.ensures
+    one_more a.store.now l.store _ a.half (kind_number a.kind) a.low l.i (omega arith) l.invariant c.carry.ensures

@@ -11,6 +11,7 @@ use Rattle.rules.specs.Messages.{Item, station, item_int, item_in}
 use Rattle.rules.specs.Words.{last_word_of, words_of}
 use Rattle.rule_laws.specs.Fitting.{Fits}
 use Rattle.item.specs.Patterns.{patterns}
+use Rattle.limits.specs.Kinds.{kind_number, kind_known}
 use Rattle.places.specs.Part.{put}
 use Rattle.places.specs.Forms.{Store, words, item_at, offset_of}
 use Rattle.places.specs.Places.{offset_within, sizes_short}
@@ -33,7 +34,7 @@ put_there store after half kind n at last i long known below fits place ending i
 
 pub put_item-requires : goal.put_item-requires
 put_item-requires c = let a = c.args in
-    omega (arith, offset_within words words_lawful a.half a.kind a.n (search rules) (search rules))
+    omega (arith, offset_within words words_lawful a.half (kind_number a.kind) a.n (kind_known a.kind) (search rules))
 
 pub returns : goal.returns
 unfolding layout_of
@@ -41,5 +42,5 @@ returns c =
     let a = c.args in
     -- what the struct's type says of its numbers
     let fits : Fits (item_int (station 0 0) 0 (patterns a.item)) = search rules in
-    put_there a.store.now _ a.half a.kind a.n c.place_at.result _ (patterns a.item) (search rules) (search rules) (search rules)
+    put_there a.store.now _ a.half (kind_number a.kind) a.n c.place_at.result _ (patterns a.item) (search rules) (kind_known a.kind) (search rules)
     fits c.place_at.ensures c.last_word-last.ensures c.put_item.ensures
