@@ -2,8 +2,8 @@
 // kind are those of the place.
 #![tactic(auto)]
 
-ghost use Rattle.std.specs.Prelude.{◌≡◌, ◌+◌, ◌-◌, ◌≤◌, ◌<◌, length};
-ghost use Rattle.rules.specs.Limits.{size_of, item_words, store_words};
+ghost use Rattle.std.specs.Prelude.{◌≡◌, ℕ, ◌+◌, ◌-◌, ◌≤◌, ◌<◌, length, get_or};
+ghost use Rattle.rules.specs.Limits.{size_of, item_words, store_words, clock_values};
 ghost use Rattle.rules.specs.Messages.{item_in};
 ghost use Rattle.rules.specs.Words.{words_of, item_of_words, last_word_of};
 ghost use Rattle.item.specs.Patterns.{item_for, patterns};
@@ -49,10 +49,11 @@ pub fn from_words(stored: [u32; ITEM_WORDS], kind: u8, seq: u16) -> Item
     )
 }
 
-// The eight words from `at`.
+// The eight words from `at`, each below 2^32.
 fn words_at(store: &[u32], at: usize) -> [u32; ITEM_WORDS]
     requires { at + item_words ≤ length store.now }
-    ensures { result ≡ part store.now at item_words }
+    ensures there { result ≡ part store.now at item_words }
+    ensures small { (i : ℕ) → get_or result i 0 < clock_values }
 {
     let mut stored = [0; ITEM_WORDS];
     stored.copy_from_slice(&store[at..at + ITEM_WORDS]);

@@ -4,6 +4,6 @@ use Rattle.std.proofs.lemmas.Slice.{overwrites}
 use Rattle.places.specs.Part.{part}
 use Rattle.storage.proofs.words_at.Goals as goal
 
-pub returns : goal.returns
+pub returns-clause-there : goal.returns-clause-there
 unfolding part
-returns c = search (rules, overwrites)
+returns-clause-there c = search (rules, overwrites)
