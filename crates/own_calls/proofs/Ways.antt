@@ -11,7 +11,7 @@ use lib.Dec.{ltb}
 use types.Run.{OneOf}
 use denote.Enum.Declared.{tag_of}
 use borrow.Author.Tests.{le-leb}
-use Rattle.rules.specs.Limits.{flight, fence, rally, kinds, size_of, store_words, reply_bytes_min, max_followed, max_repeats, expiry_ms, no_reply}
+use Rattle.rules.specs.Limits.{flight, fence, rally, kinds, size_of, store_words, reply_bytes_min, max_followed, max_repeats, expiry_ms}
 use Rattle.rules.specs.Payload.{Bytes}
 use Rattle.rules.specs.Model as model
 use Rattle.rules.specs.Model.{in_range, elapsed, flown}
@@ -20,11 +20,12 @@ use Rattle.rules.specs.Calls.{Call, timer, done, expiry, command_done, heard}
 use Rattle.rules.specs.Step.{orders, command_in, on_timer}
 use Rattle.rule_laws.specs.Tests.{either}
 use Rattle.rule_laws.specs.Refused.{plain_stuck, timer_plain}
-use Rattle.command.specs.declared.Command.TheVariants.{Stuck}
+use Rattle.std.specs.Prelude.{Option, None, Some, Result, Ok, Err}
+use Rattle.limits.specs.declared.Refusal.{Refusal}
+use Rattle.limits.specs.Codes.{refusal_code, outcome_code, refused}
 use Rattle.plan.specs.declared.State.{State}
 use Rattle.plan.specs.declared.Plan.{Plan}
-use Rattle.plan.specs.declared.Upload.{Upload}
-use Rattle.plan.specs.declared.Upload.TheVariants.{Idle, Running}
+use Rattle.plan.specs.declared.Run.{Run}
 use Rattle.places.specs.Forms.{Store, words, items_in}
 use Rattle.places.proofs.Lawful.{words_lawful}
 use Rattle.plan.specs.View.{plan_of, view_in, view}
@@ -42,6 +43,7 @@ use Rattle.answers.specs.Answered.{Handles}
 use Rattle.protocol.specs.Handlers.{DoneBy}
 use Rattle.record_steps.specs.Doing.{Done, timer_done}
 use Rattle.next_command.specs.declared.find.Found.{Found}
+use Rattle.next_command.specs.declared.find.Stand.{Stand}
 use Rattle.next_command.specs.Finding.{found_of}
 use Rattle.next_command.specs.OrderedBy.{OrderedBy, reached_state, reaches}
 use Rattle.refine.specs.After.{gives, after}
@@ -57,7 +59,7 @@ length_mapped X Y f l n e = sym (length-map l f) ∙ e
 
 -- the result of a message or a timer call: this state, and what was said
 abbrev pub served : State → Handled → Served
-served st h = record { state = st; outcome = h.said.outcome; id = h.said.id; len = h.said.len }
+served st h = record { state = st; answer = Ok h.reply }
 
 -- a handler's effect, put into the state, serves the call
 pub applied_serves :
@@ -87,16 +89,17 @@ pub record TimerTaken (st : State) (s : Store) (b : Bytes) (kind clock : ℕ) : 
   pub room : reply_bytes_min ≤ length b
   pub says : heard (in_range (view st s)) (timer kind clock (length s) (length b)) ≡ expiry clock kind
 
-module _ (st : State) (s : Store) (b : Bytes) (kind clock : ℕ) (ranged : Bool) (outcome : ℕ)
+module _ (st : State) (s : Store) (b : Bytes) (kind clock : ℕ) (ranged : Bool) {T : Type 0} (verdict : Result T Refusal)
     (test : ranged ≡ all_ranged (plan_of st flight) (plan_of st fence) (plan_of st rally) st.current st.counts)
-    (refusal : (now : ℕ) → outcome ≡ refusal_of (heard ranged (timer kind now (length s) (length b)))) where
+    (refusal : (now : ℕ) → outcome_code verdict ≡ refusal_of (heard ranged (timer kind now (length s) (length b)))) where
   abbrev ticked : Call
   ticked = timer kind clock (length s) (length b)
 
-  pub timer_refused : (outcome ≡ 0 → ⊥) → Serves ticked st s s b b (served_result (record { state = st; outcome = outcome; id = 0; len = 0 }))
-  timer_refused some = refused_serves ticked st s b ranged outcome (in_range_lem words st s ranged test) (refusal clock) some
+  pub timer_refused : (r : Refusal) → verdict ≡ Err r → Serves ticked st s s b b (served_result (record { state = st; answer = Err r }))
+  timer_refused r is =
+      refused_serves ticked st s b ranged (refusal_code r) (in_range_lem words st s ranged test) (ap outcome_code (sym is) ∙ refusal clock) (refused r)
 
-  pub timer_taken : outcome ≡ 0 → length st.plans ≡ length kinds → TimerTaken st s b kind clock
+  pub timer_taken : outcome_code verdict ≡ 0 → length st.plans ≡ length kinds → TimerTaken st s b kind clock
   timer_taken none three =
       let said : HeardTimer ranged kind clock (length s) (length b) = timer_heard ranged kind clock (length s) (length b) (sym (refusal clock) ∙ none) in
       record {
@@ -116,10 +119,10 @@ TurnsAtMost (Changes p) = ⊥
 TurnsAtMost EmptiesAll = ⊥
 TurnsAtMost (Chooses seq) = ⊥
 
-turns_at_most : (p : Plan) (now : ℕ) (u : Upload) → TurnsAtMost (timer_turned u p now).effect
+turns_at_most : (p : Plan) (now : ℕ) (u : Option Run) → TurnsAtMost (timer_turned u p now).effect
 unfolding timer_turned
-turns_at_most p now Idle = tt
-turns_at_most p now (Running r) =
+turns_at_most p now None = tt
+turns_at_most p now (Some r) =
     either Of (ltb (elapsed now r.started) expiry_ms) (λ t. tt) (λ t. either Of (ltb r.repeats max_repeats) (λ t. tt) (λ t. tt))
   where
     Of : Turned → Type 0
@@ -173,12 +176,14 @@ pub record DoneTaken (st : State) (s : Store) : Type 0 where
   pub current : st.current < size_of flight
   pub says : heard (in_range (view st s)) (done (length s)) ≡ command_done
 
-module _ (st : State) (s : Store) (ranged : Bool) (outcome : ℕ) (test : ranged ≡ all_ranged (plan_of st flight) (plan_of st fence) (plan_of st rally) st.current st.counts)
-    (refusal : outcome ≡ refusal_of (heard ranged (done (length s)))) where
-  pub done_refused : (outcome ≡ 0 → ⊥) → Serves (done (length s)) st s s [] [] (advance_result (record { state = st; outcome = outcome; command = Stuck }))
-  done_refused some = refused_serves (done (length s)) st s [] ranged outcome (in_range_lem words st s ranged test) refusal some
+module _ (st : State) (s : Store) (ranged : Bool) {T : Type 0} (verdict : Result T Refusal)
+    (test : ranged ≡ all_ranged (plan_of st flight) (plan_of st fence) (plan_of st rally) st.current st.counts)
+    (refusal : outcome_code verdict ≡ refusal_of (heard ranged (done (length s)))) where
+  pub done_refused : (r : Refusal) → verdict ≡ Err r → Serves (done (length s)) st s s [] [] (advance_result (record { state = st; answer = Err r }))
+  done_refused r is =
+      refused_serves (done (length s)) st s [] ranged (refusal_code r) (in_range_lem words st s ranged test) (ap outcome_code (sym is) ∙ refusal) (refused r)
 
-  pub done_taken : outcome ≡ 0 → length st.plans ≡ length kinds → DoneTaken st s
+  pub done_taken : outcome_code verdict ≡ 0 → length st.plans ≡ length kinds → DoneTaken st s
   done_taken none three =
       let said : HeardDone ranged (length s) = done_heard ranged (length s) (sym refusal ∙ none) in
       let all : all_ranged (plan_of st flight) (plan_of st fence) (plan_of st rally) st.current st.counts ≡ true = sym test ∙ said.in_range in
@@ -197,24 +202,24 @@ module _ (st : State) (s : Store) (taken : DoneTaken st s) (f : Found)
     found_of f
     ≡ rules.search st.home max_followed (items_in words s (plan_of st flight).half flight (plan_of st flight).len) st.counts
     (flown st.home (cond st.begun (st.current + 1) st.current))) where
-  ordered : OrderedBy st s (reached_state st f.stands f.n f.counts) f.command
+  ordered : OrderedBy st s (reached_state st f.stand) f.command
   unfolding rules.next view_in
   ordered = reaches st s f finds
 
-  done_serves : (stands : Bool) → f.stands ≡ stands
-      → Serves (done (length s)) st s s [] [] (advance_result (record { state = reached_state st stands f.n f.counts; outcome = no_reply; command = f.command }))
-  done_serves stands is =
-      let st' = reached_state st stands f.n f.counts in
-      let r = advance_result (record { state = st'; outcome = no_reply; command = f.command }) in
-      let by : OrderedBy st s st' f.command = subst (λ (t : Bool). OrderedBy st s (reached_state st t f.n f.counts) f.command) is ordered in
+  done_serves : (stand : Option Stand) → f.stand ≡ stand
+      → Serves (done (length s)) st s s [] [] (advance_result (record { state = reached_state st stand; answer = Ok f.command }))
+  done_serves stand is =
+      let st' = reached_state st stand in
+      let r = advance_result (record { state = st'; answer = Ok f.command }) in
+      let by : OrderedBy st s st' f.command = subst (λ (t : Option Stand). OrderedBy st s (reached_state st t) f.command) is ordered in
       steps_serve words words_lawful (done (length s)) st s s [] [] (gives st' s (orders (rules.answer_of (rules.next (view st s).shown)))) r
       (done_steps words words_lawful (done (length s)) st s taken.three taken.ranges st' by.shown by.plans taken.says)
       (record { state = refl; store = refl; outcome = refl; id = refl; len = refl; command = by.answer; buffer = refl; reads = tt })
 
-  pub done_stands : f.stands ≡ true
+  pub done_stands : (stand : Stand) → f.stand ≡ Some stand
       → Serves (done (length s)) st s s [] []
-      (advance_result (record { state = record { plans = st.plans; current = f.n; begun = true; home = st.home; counts = f.counts }; outcome = no_reply; command = f.command }))
-  done_stands is = done_serves true is
+      (advance_result (record { state = record { plans = st.plans; current = stand.n; begun = true; home = st.home; counts = stand.counts }; answer = Ok f.command }))
+  done_stands stand is = done_serves (Some stand) is
 
-  pub done_stays : f.stands ≡ false → Serves (done (length s)) st s s [] [] (advance_result (record { state = st; outcome = no_reply; command = f.command }))
-  done_stays is = done_serves false is
+  pub done_stays : f.stand ≡ None → Serves (done (length s)) st s s [] [] (advance_result (record { state = st; answer = Ok f.command }))
+  done_stays is = done_serves None is

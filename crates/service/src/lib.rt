@@ -1,5 +1,5 @@
 // The drone's mission service: a fresh start, a message, a timer call and "command done". These are its only public calls; none asks anything of its
-// caller, and no function below them takes or gives the state. What each promises is `Serves` of own_calls/specs/Calls.antt, over the rules' own step.
+// caller, and no function below them gives the state. What each promises is `Serves` of own_calls/specs/Calls.antt, over the rules' own step.
 #![tactic(auto)]
 
 ghost use Rattle.std.specs.Prelude.{◌≡◌, ◌≤◌, ◌<◌, length};
@@ -11,7 +11,7 @@ ghost use Rattle.own_calls.specs.Calls.{Serves, served_result};
 
 use limits::{FLIGHT, JUMP_COUNTS, RALLY};
 use message_table::receive;
-use plan::State;
+use plan::{State, Station};
 use protocol::answer;
 use ranges::ranged;
 use refusal::message_refusal;
@@ -28,10 +28,7 @@ pub use own_calls::{Advanced, Served, advance, timer};
 fn place_of(kind: u8) -> usize
     ensures { (result < length kinds) × (kind ≤ limits.rally → result ≡ kind) }
 {
-    if kind <= RALLY {
-        return kind as usize;
-    }
-    0
+    if kind <= RALLY { kind as usize } else { 0 }
 }
 
 // A message call. Wrong answers that this rules out: refusing everything, and a reply that goes to another station than the sender.
@@ -49,52 +46,42 @@ pub fn message(
 ) -> Served
     ensures { Serves (calls.message (station own_system own_component) (station system component) id payload.now clock (length store.old) (length reply.old)) state store.old store.new reply.old reply.new (served_result result) }
 {
-    let flight = state.plans[0];
-    let fence = state.plans[1];
-    let rally = state.plans[2];
-    let in_range = ranged(flight, fence, rally, state.current, state.counts);
-    let got = receive(id, payload);
-    let head = got.head;
-    let refused = message_refusal(
+    let in_range = ranged(&state);
+    let verdict = message_refusal(
         in_range,
         store.len(),
         reply.len(),
         own_system,
         own_component,
         payload.len(),
-        got.read,
-        head,
+        receive(id, payload),
     );
-    if refused != 0 {
-        return Served {
-            state,
-            outcome: refused,
-            id: 0,
-            len: 0,
-        };
-    }
-    let kind = head.kind;
+    let got = match verdict {
+        Ok(got) => got,
+        Err(refusal) => {
+            return Served {
+                state,
+                answer: Err(refusal),
+            };
+        }
+    };
+    let from = Station { system, component };
+    let kind = got.head.kind;
     let k = place_of(kind);
-    let plan = state.plans[k];
     let done = answer(
         state.home,
-        plan,
-        flight,
-        fence,
-        rally,
+        state.plans[k],
+        &state.plans,
         state.current,
         store,
         reply,
         kind,
-        system,
-        component,
+        from,
         id,
         &got.own,
         clock,
     );
-    let said = done.said;
-    let effect = done.effect;
-    match effect {
+    match done.effect {
         Effect::Nothing => {}
         Effect::Turns(plan) => {
             state.plans[k] = plan;
@@ -102,22 +89,24 @@ pub fn message(
         Effect::Renews(plan) => {
             state.plans[k] = plan;
             if kind == FLIGHT {
-                let after = state.plans;
-                state = fresh(state.home);
-                state.plans = after;
+                state = State {
+                    plans: state.plans,
+                    ..fresh(state.home)
+                };
             }
         }
         Effect::Changes(plan) => {
             state.plans[k] = plan;
             if kind == FLIGHT {
-                let none = [0u16; JUMP_COUNTS];
-                state.counts = none;
+                state.counts = [0; JUMP_COUNTS];
             }
         }
         Effect::EmptiesAll => {
-            let after = [emptied(flight), emptied(fence), emptied(rally)];
-            state = fresh(state.home);
-            state.plans = after;
+            let [flight, fence, rally] = state.plans;
+            state = State {
+                plans: [emptied(flight), emptied(fence), emptied(rally)],
+                ..fresh(state.home)
+            };
         }
         Effect::Chooses(seq) => {
             state.current = seq;
@@ -126,8 +115,6 @@ pub fn message(
     }
     Served {
         state,
-        outcome: said.outcome,
-        id: said.id,
-        len: said.len,
+        answer: Ok(done.reply),
     }
 }

@@ -2,10 +2,14 @@
 use Prim.Native.Nat.{ℕ, ◌≤◌}
 use mathlib.Core.Path.{◌≡◌, refl, sym, ap, subst, ◌∙◌}
 use mathlib.Core.List.{List, [], ◌∷◌}
-use mathlib.Core.Bool.{Bool, true, false, not, ◌||◌}
+use mathlib.Core.Bool.{Bool, true, false, not, cond, ◌||◌, ◌&&◌}
 use lib.Dec.{eqb}
+use lib.ListN.{length}
+use native.Mathlib.Omega.{arith}
 use borrow.Author.Tests.{leb-true, not-true, not-false}
-use Rattle.rules.specs.Limits.{rally, every_kind, unsupported}
+use borrow.Author.Rules.{rules}
+use Rattle.std.specs.Prelude.{None, Some}
+use Rattle.rules.specs.Limits.{flight, fence, rally, kinds, every_kind, accepted, unsupported}
 use Rattle.rules.specs.Payload.{Bytes}
 use Rattle.rules.specs.Layouts.{set_current_id, clear_all_id, ack_id}
 use Rattle.rules.specs.Messages.{Station, ack, message_of, decode}
@@ -20,16 +24,28 @@ use Rattle.plan.specs.declared.Plan.{Plan}
 use Rattle.ranges.specs.Ranges.{plans_ranged}
 use Rattle.ranges.specs.Ranged.{PlanRanges, plan_ranges}
 use Rattle.refusal.specs.Refusals.{request_of}
+use Rattle.upload.specs.declared.Effect.{Effect}
 use Rattle.upload.specs.declared.Effect.TheVariants.{Nothing}
-use Rattle.answers.specs.declared.Said.{Said}
+use Rattle.upload.specs.declared.Say.TheVariants.{Silent}
+use Rattle.upload.specs.declared.Turned.{Turned}
+use Rattle.upload.specs.Turns.{ended, keeps, moves, own_upload, ack_turned}
+use Rattle.answers.specs.declared.Reply.{Reply}
 use Rattle.answers.specs.declared.Handled.{Handled}
-use Rattle.answers.specs.Answered.{Spoken, Handles}
+use Rattle.answers.specs.Answered.{Spoken, Handles, spoken_silent}
 use Rattle.record_steps.specs.Shown.{choose_effect, choose_answer}
 use Rattle.protocol.specs.Handlers.{DoneBy}
 use Rattle.record_steps.specs.Doing.{IsPlanOf, plan_among, clear_done, plan_done, known_done, message_done}
 use Rattle.protocol.proofs.Requests.{kind_known, of_one_plan}
-use borrow.Author.Rules.{rules}
 use Rattle.protocol.proofs.answer.Goals as goal
+
+-- an ACK's turn says nothing
+says_nothing : (p : Plan) (from : Station) (result : ℕ) → (ack_turned p from result).say ≡ Silent
+unfolding ack_turned
+says_nothing p from result = go (own_upload from p.upload && not (eqb result accepted))
+  where
+    go : (t : Bool) → (cond t (moves (ended p) Silent) (keeps Silent)).say ≡ Silent
+    go true = refl
+    go false = refl
 
 -- the kinds that a message may have
 module _ (kind id : ℕ) (ok : Bool) (oks : (payload : Bytes) → ok ≡ kind_ok kind (request_of (decode id payload))) (may : not ok ≡ false) where
@@ -41,57 +57,61 @@ module _ (kind id : ℕ) (ok : Bool) (oks : (payload : Bytes) → ok ≡ kind_ok
     known_kind : kind ≤ rally
     known_kind = leb-true kind rally (kind_known id kind [] n45 n47 ∙ sym (oks []) ∙ not-false ok may)
 
-    plan_ranged_lem : (x p q r : Plan) → IsPlanOf kind x p q r → plans_ranged p q r ≡ true → PlanRanges kind x
-    plan_ranged_lem x p q r of ranged = subst (PlanRanges kind) (sym (of known_kind)) (plan_ranges p q r ranged kind known_kind)
+    plan_ranged_lem : (x : Plan) (ps : List Plan) → length ps ≡ length kinds → IsPlanOf kind x ps
+        → plans_ranged (plan_among ps flight) (plan_among ps fence) (plan_among ps rally) ≡ true → PlanRanges kind x
+    plan_ranged_lem x (p ∷ q ∷ r ∷ []) three of ranged = subst (PlanRanges kind) (sym (of known_kind)) (plan_ranges p q r ranged kind known_kind)
+    plan_ranged_lem x [] three of ranged = absurd (omega arith)
+    plan_ranged_lem x (p ∷ []) three of ranged = absurd (omega arith)
+    plan_ranged_lem x (p ∷ q ∷ []) three of ranged = absurd (omega arith)
+    plan_ranged_lem x (p ∷ q ∷ r ∷ s ∷ ps) three of ranged = absurd (omega arith)
 
-module _ (home : Bool) (p q r : Plan) (current : ℕ) (s : Store) (from : Station) (clock kind id : ℕ) (own : Bytes) (ok : Bool)
+module _ (home : Bool) (ps : List Plan) (current : ℕ) (s : Store) (from : Station) (clock kind id : ℕ) (own : Bytes) (ok : Bool)
     (oks : (payload : Bytes) → ok ≡ kind_ok kind (request_of (decode id payload))) where
-  abbrev plans : List Plan
-  plans = p ∷ q ∷ r ∷ []
-
   abbrev Goal : (s' : Store) (b b' : Bytes) → Handled → Type 0
-  Goal = DoneBy (message_done words home plans current s from clock kind (request_of (decode id own)))
+  Goal = DoneBy (message_done words home ps current s from clock kind (request_of (decode id own)))
 
   -- a kind that the message may not have
-  unsupported_kind : (b b' : Bytes) (said : Said) (h : Handled) → not ok ≡ true → Spoken (says (ack from unsupported kind 0)) b b' said
-      → h ≡ record { effect = Nothing; said = said } → Goal s b b' h
+  unsupported_kind : (b b' : Bytes) (reply : Reply) (h : Handled) → not ok ≡ true → Spoken (says (ack from unsupported kind 0)) b b' (Some reply)
+      → h ≡ record { effect = Nothing; reply = Some reply } → Goal s b b' h
   unfolding message_done
-  unsupported_kind b b' said h other spoken only =
+  unsupported_kind b b' reply h other spoken only =
       let t : kind_ok kind (request_of (decode id own)) ≡ false = sym (oks own) ∙ not-true ok other in
       rw (t, only) (record { handles = record { effect = refl; spoken = spoken }; store = refl })
 
   module _ (may : not ok ≡ false) where
     -- a kind that it may have: what its request does
-    allowed : (s' : Store) (b b' : Bytes) (h : Handled) → DoneBy (known_done words home plans current s from clock kind (request_of (decode id own))) s' b b' h → Goal s' b b' h
+    allowed : (s' : Store) (b b' : Bytes) (h : Handled) → DoneBy (known_done words home ps current s from clock kind (request_of (decode id own))) s' b b' h → Goal s' b b' h
     unfolding message_done
     allowed s' b b' h done =
         let t : kind_ok kind (request_of (decode id own)) ≡ true = sym (oks own) ∙ not-false ok may in
         rw t done
 
     by_request : (req : Request) (s' : Store) (b b' : Bytes) (h : Handled) → request_of (decode id own) ≡ req
-        → DoneBy (known_done words home plans current s from clock kind req) s' b b' h → Goal s' b b' h
+        → DoneBy (known_done words home ps current s from clock kind req) s' b b' h → Goal s' b b' h
     by_request req s' b b' h is done = allowed s' b b' h (rw is done)
 
     module _ (b b' : Bytes) (h : Handled) where
       sets_current_lem : (m : SetCurrent) (n : ℕ) → id ≡ set_current_id → set_current_message m ≡ decode set_current_id own → n ≡ flown home m.seq
-          → Handles (choose_effect p n) (choose_answer p q r n) b b' h → Goal s b b' h
+          → Handles (choose_effect (plan_among ps flight) n) (choose_answer (plan_among ps flight) (plan_among ps fence) (plan_among ps rally) n) b b' h → Goal s b b' h
       unfolding known_done
       sets_current_lem m n e reads is handles =
           by_request (chooses m.seq) s b b' h (rw e (ap request_of (sym reads))) (record { handles = rw (sym is) handles; store = refl })
 
-      clears_all : id ≡ clear_all_id → ((store : Store) → DoneBy (clear_done plans store from kind) store b b' h) → Goal s b b' h
+      clears_all : id ≡ clear_all_id → ((store : Store) → DoneBy (clear_done ps store from kind) store b b' h) → Goal s b b' h
       unfolding known_done decode message_of
       clears_all e done = by_request clears s b b' h (rw e) (done s)
 
-      turns_plan : (x : Plan) (s' : Store) → (id ≡ set_current_id → ⊥) → (id ≡ clear_all_id → ⊥) → x ≡ plan_among plans kind
+      turns_plan : (x : Plan) (s' : Store) → (id ≡ set_current_id → ⊥) → (id ≡ clear_all_id → ⊥) → x ≡ plan_among ps kind
           → DoneBy (plan_done words home x current s from clock kind (request_of (decode id own))) s' b b' h → Goal s' b b' h
-      turns_plan x s' n41 n45 is done = allowed s' b b' h (rw (of_one_plan home plans current s from clock kind id own n41 n45, sym is) done)
+      turns_plan x s' n41 n45 is done = allowed s' b b' h (rw (of_one_plan home ps current s from clock kind id own n41 n45, sym is) done)
 
-    acknowledged : (x : Plan) (b : Bytes) (h : Handled) (m : Ack) → id ≡ ack_id → ack_message m ≡ decode ack_id own → IsPlanOf kind x p q r
-        → ((home' : Bool) (p' q' r' : Plan) (current' : ℕ) (store : Store) (clock' : ℕ) (b₀ : Bytes) → IsPlanOf kind x p' q' r'
-        → DoneBy (known_done words home' (p' ∷ q' ∷ r' ∷ []) current' store from clock' kind (acknowledges m.result)) store b₀ b₀ h)
-        → Goal s b b h
-    acknowledged x b h m e reads of done = by_request (acknowledges m.result) s b b h (rw e (ap request_of (sym reads))) (done home p q r current s clock b of)
+    acknowledges_lem : (x : Plan) (b : Bytes) (e : Effect) (m : Ack) → id ≡ ack_id → ack_message m ≡ decode ack_id own → length ps ≡ length kinds → IsPlanOf kind x ps
+        → ((l : List Plan) → length l ≡ length kinds → IsPlanOf kind x l → e ≡ (ack_turned (plan_among l kind) from m.result).effect)
+        → Goal s b b (record { effect = e; reply = None })
+    unfolding known_done plan_done
+    acknowledges_lem x b e m is reads three of done =
+        by_request (acknowledges m.result) s b b _ (rw is (ap request_of (sym reads)))
+        (rw (done ps three of, says_nothing (plan_among ps kind) from m.result) (record { handles = record { effect = refl; spoken = spoken_silent b }; store = refl }))
 
 pub returns-then-not-kind_ok : goal.returns-then-not-kind_ok
 returns-then-not-kind_ok c = search (unsupported_kind, rules)
@@ -100,13 +120,15 @@ pub clear-requires : goal.clear-requires
 clear-requires c = search (known_or_every, rules)
 
 pub turn-requires : goal.turn-requires
-turn-requires c = let rest = c.in_default.in_default-own.rest in
+turn-requires c =
+    let rest = c.in_default.in_default-own.rest in
+    let three : length c.args.plans.now ≡ length kinds = search rules in
     let pre = c.requires in
     let may = ap not c.if-not-kind_ok.false in
     let n45 = rest.0.1 in
     let n47 = rest.1 in
     record {
-      kind_le_rally = (known_kind _ _ _ c.kind_ok.ensures may n45 n47, plan_ranged_lem _ _ _ c.kind_ok.ensures may n45 n47 _ _ _ _ pre.0 pre.1, pre.2, pre.3);
+      kind_le_rally = (known_kind _ _ _ c.kind_ok.ensures may n45 n47, plan_ranged_lem _ _ _ c.kind_ok.ensures may n45 n47 _ c.args.plans.now three pre.0 pre.1, pre.2, pre.3);
       own_value = (pre.4, rest.0.0.1, n45, n47);
     }
 
@@ -117,12 +139,14 @@ pub returns-in-45 : goal.returns-in-45
 returns-in-45 c = search (clears_all, rules)
 
 pub returns-in-47 : goal.returns-in-47
-returns-in-47 c = search (acknowledged, rules)
+returns-in-47 c =
+    let three : length c.args.plans.now ≡ length kinds = search rules in
+    search (acknowledges_lem, three, rules)
 
 pub returns-in_default : goal.returns-in_default
-returns-in_default c = let rest = c.in_default.in_default-own.rest in
-    let pre = c.requires in
+returns-in_default c =
+    let rest = c.in_default.in_default-own.rest in
     let may = ap not c.if-not-kind_ok.false in
     let n45 = rest.0.1 in
-    turns_plan _ _ _ _ _ _ _ _ _ _ _ _ c.kind_ok.ensures may _ _ _ _ _ rest.0.0.1 n45
-    (pre.0 (known_kind _ _ _ c.kind_ok.ensures may n45 rest.1)) c.turn.ensures
+    turns_plan _ _ _ _ _ _ _ _ _ _ c.kind_ok.ensures may _ _ _ _ _ rest.0.0.1 n45
+    (c.requires.0 (known_kind _ _ _ c.kind_ok.ensures may n45 rest.1)) c.turn.ensures
