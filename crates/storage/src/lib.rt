@@ -30,21 +30,21 @@ fn last_word(command: u16, frame: u8, autocontinue: u8) -> u32
 pub fn from_words(stored: [u32; ITEM_WORDS], kind: u8, seq: u16) -> Item
     ensures { result ≡ item_for (item_of_words stored kind seq) }
 {
-    let [param1, param2, param3, param4, x, y, z, last] = stored;
-    item::made(
-        param1,
-        param2,
-        param3,
-        param4,
-        x,
-        y,
-        z,
+    let [bits1, bits2, bits3, bits4, bits_x, bits_y, bits_z, last] = stored;
+    Item {
+        bits1,
+        bits2,
+        bits3,
+        bits4,
+        bits_x,
+        bits_y,
+        bits_z,
         seq,
-        (last % FRAME_UNIT) as u16,
-        (last / FRAME_UNIT % BYTE_VALUES) as u8,
-        (last / AUTOCONTINUE_UNIT % BYTE_VALUES) as u8,
+        command: (last % FRAME_UNIT) as u16,
+        frame: (last / FRAME_UNIT % BYTE_VALUES) as u8,
+        autocontinue: (last / AUTOCONTINUE_UNIT % BYTE_VALUES) as u8,
         kind,
-    )
+    }
 }
 
 // The eight words from `at`.

@@ -30,7 +30,7 @@ copy_within-requires-clause-in_bounds c = let a = c.args in
 
 pub copy_within-requires-clause-dest_in_bounds : goal.copy_within-requires-clause-dest_in_bounds
 copy_within-requires-clause-dest_in_bounds c = let a = c.args in
-    omega (arith, offset_within words words_lawful (not a.half) a.kind a.n (omega arith) (omega arith))
+    omega (arith, offset_within words words_lawful a.half a.kind a.n (omega arith) (omega arith), offset_within words words_lawful (not a.half) a.kind a.n (omega arith) (omega arith))
 
 pub returns : goal.returns
 returns c = let a = c.args in
