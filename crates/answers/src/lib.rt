@@ -4,10 +4,12 @@
 ghost use Rattle.std.specs.Prelude.{◌≡◌, ◌≤◌, length, Some};
 ghost use Rattle.rules.specs.Limits.{reply_bytes_min};
 ghost use Rattle.rules.specs.Messages.{station};
+ghost use Rattle.rules.specs.Step.{says};
 ghost use Rattle.record_steps.specs.Answers.{answer_of};
 ghost use Rattle.answers.specs.Answered.{Spoken, Handles};
 
 use limits::{ACCEPTED, Fault};
+use payloads::Written;
 use plan::Station;
 use upload::{Effect, Say, Turned};
 
@@ -23,6 +25,17 @@ pub struct Reply {
 pub struct Handled {
     pub effect: Effect,
     pub reply: Option<Reply>,
+}
+
+// A message, written as the reply.
+pub fn reply_with<M: Written>(message: M, reply: &mut [u8]) -> Reply
+    requires { reply_bytes_min ≤ length reply.old }
+    ensures { Spoken (says (M.message message)) reply.old reply.new (Some result) }
+{
+    Reply {
+        id: M::ID,
+        len: reply::write(message, reply),
+    }
 }
 
 // An ACK that accepts, with a plan number, or says a fault.
@@ -41,11 +54,7 @@ pub fn ack(res: Result<u32, Fault>, kind: u8, to: Station, reply: &mut [u8]) -> 
         kind,
         number,
     };
-    let len = reply::write_ack(message, reply);
-    Reply {
-        id: wire::ACK_ID,
-        len,
-    }
+    reply_with(message, reply)
 }
 
 // What is said, written as the reply, where anything is.
@@ -63,11 +72,7 @@ pub fn speak(what: Say, kind: u8, to: Station, reply: &mut [u8]) -> Option<Reply
                 component: to.component,
                 kind,
             };
-            let len = reply::write_request_int(message, reply);
-            Some(Reply {
-                id: wire::REQUEST_INT_ID,
-                len,
-            })
+            Some(reply_with(message, reply))
         }
     }
 }

@@ -6,7 +6,7 @@ ghost use Rattle.std.specs.Prelude.{◌≡◌, [], length};
 ghost use Rattle.rules.specs.Calls as calls;
 ghost use Rattle.own_calls.specs.Calls.{Serves, answer_outcome, answer_id, answer_len, advance_outcome, advance_command, served_result, advance_result};
 
-use answers::{REPLIED, Reply};
+use answers::Reply;
 use command::Command;
 use limits::{NO_REPLY, Refusal};
 use plan::State;
@@ -14,6 +14,9 @@ use protocol::expire;
 use ranges::ranged;
 use refusal::{done_refusal, timer_refusal};
 use upload::Effect;
+
+// The outcome of a call that replied.
+pub const REPLIED: u8 = 0;
 
 // What a message or a timer call returns beside the store and the reply buffer: the state after it, and the reply, where there is one, or why it is refused.
 #[derive(Clone, Copy)]
@@ -70,7 +73,7 @@ impl Advanced {
     {
         match self.answer {
             Ok(_) => NO_REPLY,
-            Err(refusal) => refusal.code(),
+            Err(reason) => reason.code(),
         }
     }
 

@@ -10,7 +10,7 @@ ghost use Rattle.record_steps.specs.Shown.{list_answer, request_answer, choose_e
 ghost use Rattle.record_steps.specs.Doing.{plan_among};
 ghost use Rattle.places.specs.Forms.{words};
 
-use answers::{Handled, Reply, ack, only};
+use answers::{Handled, Reply, ack, only, reply_with};
 use limits::{FLIGHT, Fault};
 use plan::{Plan, Station, number_shown};
 use upload::Effect;
@@ -27,11 +27,7 @@ pub fn list(plan: Plan, kind: u8, to: Station, reply: &mut [u8]) -> Reply
         kind,
         number: number_shown(plan),
     };
-    let len = reply::write_count(message, reply);
-    Reply {
-        id: wire::COUNT_ID,
-        len,
-    }
+    reply_with(message, reply)
 }
 
 // The current field of an item: 1 exactly for the flight item that is current.
@@ -64,11 +60,7 @@ pub fn request(
         current: current_field(kind, seq, current),
         item,
     };
-    let len = reply::write_item_int(message, reply);
-    Reply {
-        id: wire::ITEM_INT_ID,
-        len,
-    }
+    reply_with(message, reply)
 }
 
 // SET_CURRENT: an item of the flight plan becomes current, and CURRENT is written; of an item that is not there a text says so.
@@ -87,19 +79,10 @@ pub fn set_current(plans: &[Plan; 3], seq: u16, reply: &mut [u8]) -> Handled
             fence: number_shown(fence),
             rally: number_shown(rally),
         };
-        let len = reply::write_current(message, reply);
         return Handled {
             effect: Effect::Chooses(seq),
-            reply: Some(Reply {
-                id: wire::CURRENT_ID,
-                len,
-            }),
+            reply: Some(reply_with(message, reply)),
         };
     }
-    let message = reply::no_such_item();
-    let len = reply::write_statustext(message, reply);
-    only(Reply {
-        id: wire::STATUSTEXT_ID,
-        len,
-    })
+    only(reply_with(reply::no_such_item(), reply))
 }
