@@ -3,13 +3,10 @@
 use Prim.Native.Nat.{ℕ, ◌+◌, ◌≤◌, ◌<◌}
 use native.Mathlib.Omega.{arith}
 use mathlib.Core.Path.{◌≡◌, refl, sym, ap, subst, ◌∙◌}
-use mathlib.Core.Logic.{⊎_elim}
 use mathlib.Core.List.{List, [], ◌∷◌, map}
 use mathlib.Core.Bool.{Bool, true, false, cond}
 use lib.ListN.{length, length-map}
 use lib.Dec.{ltb}
-use types.Run.{OneOf}
-use denote.Enum.Declared.{tag_of}
 use borrow.Author.Tests.{le-leb}
 use Rattle.rules.specs.Limits.{flight, fence, rally, kinds, size_of, store_words, reply_bytes_min, max_followed, max_repeats, expiry_ms}
 use Rattle.rules.specs.Payload.{Bytes}
@@ -37,7 +34,6 @@ use Rattle.upload.specs.Turns.{timer_turned}
 use Rattle.upload.specs.Effects.{turned_state, applied}
 use Rattle.upload.specs.declared.Effect.{Effect}
 use Rattle.upload.specs.declared.Effect.TheVariants.{Nothing, Turns, Renews, Changes, EmptiesAll, Chooses}
-use Rattle.upload.specs.contracts.Effect.{the_type}
 use Rattle.answers.specs.declared.Handled.{Handled}
 use Rattle.answers.specs.Answered.{Handles}
 use Rattle.protocol.specs.Handlers.{DoneBy}
@@ -52,10 +48,6 @@ use Rattle.refine.specs.Turned.{timer_agrees}
 use Rattle.refine.specs.Serving.{steps_serve}
 use Rattle.own_calls.specs.declared.Served.{Served}
 use Rattle.own_calls.specs.Calls.{Serves, served_result, advance_result, refused_serves}
-
--- a state's plans are three, as it is held
-pub length_mapped : (X Y : Type 0) (f : X → Y) (l : List X) (n : ℕ) → length (map f l) ≡ n → length l ≡ n
-length_mapped X Y f l n e = sym (length-map l f) ∙ e
 
 -- the result of a message or a timer call: this state, and what was said
 abbrev pub served : State → Handled → Served
@@ -99,9 +91,9 @@ module _ (st : State) (s : Store) (b : Bytes) (kind clock : ℕ) (ranged : Bool)
   timer_refused r is =
       refused_serves ticked st s b ranged (refusal_code r) (in_range_lem words st s ranged test) (ap outcome_code (sym is) ∙ refusal clock) (refused r)
 
-  pub timer_taken : outcome_code verdict ≡ 0 → length st.plans ≡ length kinds → TimerTaken st s b kind clock
-  timer_taken none three =
-      let said : HeardTimer ranged kind clock (length s) (length b) = timer_heard ranged kind clock (length s) (length b) (sym (refusal clock) ∙ none) in
+  pub timer_taken : (v : T) → verdict ≡ Ok v → length st.plans ≡ length kinds → TimerTaken st s b kind clock
+  timer_taken v is three =
+      let said : HeardTimer ranged kind clock (length s) (length b) = timer_heard ranged kind clock (length s) (length b) (sym (refusal clock) ∙ ap outcome_code is) in
       record {
         ranges = sym (in_range_lem words st s ranged test) ∙ said.there.in_range;
         three = three;
@@ -128,17 +120,14 @@ turns_at_most p now (Some r) =
     Of : Turned → Type 0
     Of t = TurnsAtMost t.effect
 
--- where it is none of the others it is nothing
-no_turn : (e : Effect) → TurnsAtMost e → OneOf (0 ∷ 2 ∷ 3 ∷ 4 ∷ 5 ∷ []) (tag_of the_type e) → e ≡ Nothing
-no_turn Nothing least tag = refl
-no_turn (Turns p) least tag =
-    absurd
-    (⊎_elim (λ h. omega arith)
-    (λ other. ⊎_elim (λ h. omega arith) (λ another. ⊎_elim (λ h. omega arith) (λ last. ⊎_elim (λ h. omega arith) (λ h. omega arith) last) another) other) tag)
-no_turn (Renews p) least tag = absurd least
-no_turn (Changes p) least tag = absurd least
-no_turn EmptiesAll least tag = absurd least
-no_turn (Chooses seq) least tag = absurd least
+-- where it puts none in it is nothing
+no_turn : (e : Effect) → TurnsAtMost e → ((p : Plan) → e ≡ Turns p → ⊥) → e ≡ Nothing
+no_turn Nothing least other = refl
+no_turn (Turns p) least other = absurd (other p refl)
+no_turn (Renews p) least other = absurd least
+no_turn (Changes p) least other = absurd least
+no_turn EmptiesAll least other = absurd least
+no_turn (Chooses seq) least other = absurd least
 
 -- what the handler did
 module _ (st : State) (s : Store) (b : Bytes) (kind clock : ℕ) (taken : TimerTaken st s b kind clock) (b' : Bytes) (h : Handled)
@@ -158,12 +147,12 @@ module _ (st : State) (s : Store) (b : Bytes) (kind clock : ℕ) (taken : TimerT
   pub timer_turns : (plan : Plan) → h.effect ≡ Turns plan → Serves (timer kind clock (length s) (length b)) st s s b b' (served_result (served (turned_state st kind plan) h))
   timer_turns plan is = timer_serves (Turns plan) is
 
-  pub timer_nothing : OneOf (0 ∷ 2 ∷ 3 ∷ 4 ∷ 5 ∷ []) (tag_of the_type h.effect) → Serves (timer kind clock (length s) (length b)) st s s b b' (served_result (served st h))
+  pub timer_nothing : ((q : Plan) → h.effect ≡ Turns q → ⊥) → Serves (timer kind clock (length s) (length b)) st s s b b' (served_result (served st h))
   unfolding timer_done
-  timer_nothing tag =
+  timer_nothing other =
       let p = plan_of st kind in
       let least = subst TurnsAtMost (sym (by s).effect) (turns_at_most p clock p.upload) in
-      timer_serves Nothing (no_turn h.effect least tag)
+      timer_serves Nothing (no_turn h.effect least other)
 
 -- ---- "command done"
 
@@ -183,9 +172,9 @@ module _ (st : State) (s : Store) (ranged : Bool) {T : Type 0} (verdict : Result
   done_refused r is =
       refused_serves (done (length s)) st s [] ranged (refusal_code r) (in_range_lem words st s ranged test) (ap outcome_code (sym is) ∙ refusal) (refused r)
 
-  pub done_taken : outcome_code verdict ≡ 0 → length st.plans ≡ length kinds → DoneTaken st s
-  done_taken none three =
-      let said : HeardDone ranged (length s) = done_heard ranged (length s) (sym refusal ∙ none) in
+  pub done_taken : (v : T) → verdict ≡ Ok v → length st.plans ≡ length kinds → DoneTaken st s
+  done_taken v is three =
+      let said : HeardDone ranged (length s) = done_heard ranged (length s) (sym refusal ∙ ap outcome_code is) in
       let all : all_ranged (plan_of st flight) (plan_of st fence) (plan_of st rally) st.current st.counts ≡ true = sym test ∙ said.in_range in
       record {
         ranges = sym (in_range_lem words st s ranged test) ∙ said.in_range;

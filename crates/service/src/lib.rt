@@ -47,6 +47,7 @@ pub fn message(
     ensures { Serves (calls.message (station own_system own_component) (station system component) id payload.now clock (length store.old) (length reply.old)) state store.old store.new reply.old reply.new (served_result result) }
 {
     let in_range = ranged(&state);
+    let received = receive(id, payload);
     let verdict = message_refusal(
         in_range,
         store.len(),
@@ -54,7 +55,7 @@ pub fn message(
         own_system,
         own_component,
         payload.len(),
-        receive(id, payload),
+        received,
     );
     let got = match verdict {
         Ok(got) => got,
