@@ -1,17 +1,25 @@
--- Text in a lent buffer: what stands before a place is the text so far.
-use Rattle.std.specs.Prelude.{ℕ, ◌≡◌, List, [], ◌∷◌, ◌++◌, length, take}
+-- Text in a lent buffer.
+use Rattle.std.specs.Prelude.{ℕ, ◌-◌, ◌+◌, ◌≡◌, List, [], ◌∷◌, ◌++◌, length, take}
 
--- the text so far, which ends at a place, and more behind it, as far as the buffer has room
-abbrev pub added : List ℕ → ℕ → List ℕ → List ℕ
-added before at more = take (length before) (take at before ++ more)
+-- the text so far, and how many bytes there is room for behind it
+pub record Filled : Type 0 where
+  pub text : List ℕ
+  pub left : ℕ
 
--- a buffer that held `before` then holds `after`, and its text ends at r. What it holds from r on is free.
-pub record Adds (more before : List ℕ) (at : ℕ) (after : List ℕ) (r : ℕ) : Type 0 where
-  pub text : take r after ≡ added before at more
-  pub size : r ≡ length (added before at more)
-  pub room : length after ≡ length before
+-- an empty buffer of so many bytes
+abbrev pub emptied : ℕ → Filled
+emptied size = record { text = []; left = size }
+
+-- how many bytes a buffer holds
+abbrev pub size_of : Filled → ℕ
+size_of filled = length filled.text + filled.left
+
+-- more stands behind the text so far, as far as there is room
+pub record Adds (more : List ℕ) (before after : Filled) : Type 0 where
+  pub text : after.text ≡ before.text ++ take before.left more
+  pub left : after.left ≡ before.left - length more
 
 -- the texts of each of a list, one after another
-unfoldable pub each : (ℕ → List ℕ) → List ℕ → List ℕ
+unfoldable pub each : {A : Type 0} → (A → List ℕ) → List A → List ℕ
 each text [] = []
 each text (x ∷ xs) = text x ++ each text xs

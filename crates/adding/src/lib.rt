@@ -1,32 +1,72 @@
-// Text behind the text so far, which ends at a place, in a lent buffer, and parts of lent slices. What is put answers where the text then ends; past the
-// buffer's end nothing is kept.
+// Text in lent buffers, which is added to at its end, and parts of lent slices.
 #![tactic(auto)]
 
 mod parts;
 
-ghost use Rattle.std.specs.Prelude.{[], ◌∷◌};
-ghost use Rattle.adding.specs.Added.{Adds};
+ghost use Rattle.std.specs.Prelude.{[], ◌∷◌, ◌≡◌, ◌-◌, ◌≤◌, length, take};
+ghost use Rattle.adding.specs.Added.{Filled, emptied, size_of, Adds};
 
 pub use parts::{first, part, within};
+use std::marker::Model;
 
-pub fn put_byte(out: &mut [u8], at: usize, byte: u8) -> usize
-    ensures { Adds (byte ∷ []) out.old at out.new result }
-{
-    if at < out.len() {
-        out[at] = byte;
-        return at + 1;
-    }
-    out.len()
+// Text in a lent buffer. What goes past the buffer's end is not kept.
+#[derive(Drop)]
+pub struct Text<'a> {
+    bytes: &'a mut [u8],
+    len: usize,
 }
 
-pub fn put(out: &mut [u8], at: usize, more: &[u8]) -> usize
-    ensures { Adds more.now out.old at out.new result }
-{
-    let mut end = within(at, out);
-    let mut i = 0;
-    while i < more.len() {
-        end = put_byte(out, end, more[i]);
-        i += 1;
+impl<'a> Model for Text<'a> {
+    ghost Value = { Filled };
+
+    ghost view = { λ t. record { text = take t.len t.bytes.now; left = length t.bytes.now - t.len } };
+
+    ghost invariant = { λ t. t.len ≤ length t.bytes.now };
+}
+
+impl<'a> Text<'a> {
+    // No text yet.
+    pub fn new(bytes: &'a mut [u8]) -> Text<'a>
+        ensures { result ≡ emptied (length bytes.old) }
+    {
+        Text { bytes, len: 0 }
     }
-    end
+
+    pub fn as_bytes(&self) -> &[u8]
+        ensures { result.now ≡ self.now.text }
+    {
+        &self.bytes[..self.len]
+    }
+
+    // How many bytes there is room for behind the text.
+    pub fn room(&self) -> usize
+        ensures { result ≡ self.now.left }
+    {
+        self.bytes.len() - self.len
+    }
+
+    // The next text begins at the buffer's start.
+    pub fn clear(&mut self)
+        ensures { self.new ≡ emptied (size_of self.old) }
+    {
+        self.len = 0;
+    }
+
+    pub fn put_byte(&mut self, byte: u8)
+        ensures { Adds (byte ∷ []) self.old self.new }
+    {
+        if self.len < self.bytes.len() {
+            self.bytes[self.len] = byte;
+            self.len += 1;
+        }
+    }
+
+    pub fn put(&mut self, more: &[u8])
+        ensures { Adds more.now self.old self.new }
+    {
+        let fits = first(more, self.room());
+        let end = self.len + fits.len();
+        self.bytes[self.len..end].copy_from_slice(fits);
+        self.len = end;
+    }
 }

@@ -2,24 +2,17 @@
 -- magnitude m * up e is 0 exactly if m is.
 use Prim.Native.Nat.{ℕ, zero, suc, ◌+◌, ◌*◌, ◌≤◌, ◌<◌, zero-le}
 use mathlib.Core.Path.{◌≡◌, refl, sym, ap, ◌∙◌, subst}
-use mathlib.Core.Bool.{Bool, true, false, not, ◌&&◌, ◌||◌, beq, and-true, or-true, or-false}
+use mathlib.Core.Bool.{Bool, true, false, not, ◌&&◌, ◌||◌, and-true, or-true, or-false}
 use native.Mathlib.Nat.{zero-mul, mul-one, mul-pos, mul_right_comm, zero-lt-suc}
 use native.Mathlib.Omega.{arith}
 use lib.IntN.{ℤ, pos}
 use lib.Dec.{eqb, ltb, leb, eqb-suc-zero}
-use lib.Ieee.{Float, nan, inf, fin, up, down, lt, le, eq, ne, is_nan, below, level}
+use lib.Ieee.{Float, nan, inf, fin, up, down, lt, le, eq, below, level}
 use lib.Ieee.Fits.{up_pos, down_pos}
 use lib.Ieee.Exact.{HasValue}
-use borrow.Author.Tests.{lt-ltb, le-leb, eq-eqb, ne_eqb}
+use borrow.Author.Tests.{lt-ltb, le-leb, ne_eqb}
 use Rattle.float_tests.proofs.NumberTests.{le_or_eq, leb_scaled}
-use Rattle.rules.specs.Values.{finite, at_least_zero, above_zero, zero_to}
-
-pub finite_is : (x : Float) → (lt (inf true) x && lt x (inf false)) ≡ finite x
-unfolding lt finite
-finite_is nan = refl
-finite_is (inf true) = refl
-finite_is (inf false) = refl
-finite_is (fin s m e) = refl
+use Rattle.rules.specs.Values.{at_least_zero, above_zero, zero_to}
 
 -- 0 against a number of magnitude w
 abbrev zero_below : Bool → ℕ → Bool
@@ -109,15 +102,3 @@ zero_to_is n (fin t k d) v (fin s m e) =
     ap (λ (u : Bool). le (fin false 0 (pos 0)) (fin s m e) && le (fin s m e) (fin u k d)) v.0
     ∙ ap (λ (b : Bool). b && le (fin s m e) (fin false k d)) (zero_le_is s m e)
     ∙ limited s m k n e d v.1
-
--- ---- NaN
-
-same_sign : (s : Bool) → beq s s ≡ true
-same_sign true = refl
-same_sign false = refl
-
-pub nan_is : (x : Float) → ne x x ≡ is_nan x
-unfolding ne eq is_nan
-nan_is nan = refl
-nan_is (inf s) = rw (same_sign s)
-nan_is (fin s m e) = rw (eq-eqb (m * up e * down e) (m * up e * down e) refl, same_sign s)

@@ -8,20 +8,20 @@ ghost use Rattle.rules.specs.Values.{finite, at_least_zero, above_zero, zero_to}
 pub fn is_finite(x: f32) -> bool
     ensures { result ≡ finite x }
 {
-    (-1.0 / 0.0 < x) & (x < 1.0 / 0.0)
+    x.is_finite()
 }
 
 // Minus zero is at least 0.
 pub fn at_least_zero(x: f32) -> bool
     ensures { result ≡ at_least_zero x }
 {
-    (0.0 <= x) & (x < 1.0 / 0.0)
+    (0.0 <= x) & (x < f32::INFINITY)
 }
 
 pub fn above_zero(x: f32) -> bool
     ensures { result ≡ above_zero x }
 {
-    (0.0 < x) & (x < 1.0 / 0.0)
+    (0.0 < x) & (x < f32::INFINITY)
 }
 
 pub fn zero_to(limit: u16, x: f32) -> bool
@@ -30,9 +30,8 @@ pub fn zero_to(limit: u16, x: f32) -> bool
     (0.0 <= x) & (x <= limit as f32)
 }
 
-// NaN alone differs from itself.
 pub fn is_nan(x: f32) -> bool
     ensures { result ≡ is_nan x }
 {
-    x != x
+    x.is_nan()
 }

@@ -4,37 +4,31 @@
 ghost use Rattle.adding.specs.Added.{Adds};
 ghost use Rattle.rows.specs.Rows.{begun, row, line};
 
+use text::Text;
+
 // A letter and numbers: what every line begins with.
-pub fn put_begun(out: &mut [u8], at: usize, letter: u8, list: &[u64]) -> usize
-    ensures { Adds (begun letter list.now) out.old at out.new result }
+pub fn put_begun(text: &mut Text, letter: u8, list: &[u64])
+    ensures { Adds (begun letter list.now) text.old text.new }
 {
-    let end = text::put_byte(out, at, letter);
-    text::put_numbers(out, end, list)
+    text.put_byte(letter);
+    text::put_numbers(text, list);
 }
 
 // A letter and numbers as a line.
-pub fn put_row(out: &mut [u8], at: usize, letter: u8, list: &[u64]) -> usize
-    ensures { Adds (row letter list.now) out.old at out.new result }
+pub fn put_row(text: &mut Text, letter: u8, list: &[u64])
+    ensures { Adds (row letter list.now) text.old text.new }
 {
-    let end = put_begun(out, at, letter, list);
-    text::put_byte(out, end, b'\n')
+    put_begun(text, letter, list);
+    text.put_byte(b'\n');
 }
 
 // A word, numbers, a mark, bytes in hex, and the last of the line.
-pub fn put_line(
-    out: &mut [u8],
-    at: usize,
-    word: &[u8],
-    list: &[u64],
-    mark: &[u8],
-    bytes: &[u8],
-    last: &[u8],
-) -> usize
-    ensures { Adds (line word.now list.now mark.now bytes.now last.now) out.old at out.new result }
+pub fn put_line(text: &mut Text, word: &[u8], list: &[u64], mark: &[u8], bytes: &[u8], last: &[u8])
+    ensures { Adds (line word.now list.now mark.now bytes.now last.now) text.old text.new }
 {
-    let end = text::put(out, at, word);
-    let end = text::put_numbers(out, end, list);
-    let end = text::put(out, end, mark);
-    let end = text::put_hex(out, end, bytes);
-    text::put(out, end, last)
+    text.put(word);
+    text::put_numbers(text, list);
+    text.put(mark);
+    text::put_hex(text, bytes);
+    text.put(last);
 }

@@ -31,7 +31,7 @@ pub fn from_words(stored: [u32; ITEM_WORDS], kind: u8, seq: u16) -> Item
     ensures { result ≡ item_for (item_of_words stored kind seq) }
 {
     let [bits1, bits2, bits3, bits4, bits_x, bits_y, bits_z, last] = stored;
-    Item {
+    item::made(
         bits1,
         bits2,
         bits3,
@@ -40,11 +40,11 @@ pub fn from_words(stored: [u32; ITEM_WORDS], kind: u8, seq: u16) -> Item
         bits_y,
         bits_z,
         seq,
-        command: (last % FRAME_UNIT) as u16,
-        frame: (last / FRAME_UNIT % BYTE_VALUES) as u8,
-        autocontinue: (last / AUTOCONTINUE_UNIT % BYTE_VALUES) as u8,
+        (last % FRAME_UNIT) as u16,
+        (last / FRAME_UNIT % BYTE_VALUES) as u8,
+        (last / AUTOCONTINUE_UNIT % BYTE_VALUES) as u8,
         kind,
-    }
+    )
 }
 
 // The eight words from `at`.

@@ -3,8 +3,8 @@ use Rattle.std.specs.Prelude.{ℕ, zero, suc, ◌+◌, ◌-◌, ◌/◌, ◌%◌
 use Rattle.std.proofs.Common.{ap, ◌∙◌, append_assoc, div-lt_iff_lt-mul, add-one, arith, length-set, length-drop, drop-cons, drop-set-lt, get_or-set_same, take_all, lt-ltb, le-ltb}
 use Rattle.std.proofs.Math.Nat.{pow-succ'}
 use Rattle.std.proofs.Math.Decide.{dec_le}
-use Rattle.adding.specs.Added.{Adds}
-use Rattle.adding.specs.Laws.{adds_both, adds_byte}
+use Rattle.adding.specs.Added.{Filled, Adds}
+use Rattle.adding.specs.Laws.{adds_both}
 use Rattle.text.specs.Digits.{digit, decimal_in, decimal, two_digits}
 
 -- how many digits a number may have does not matter, where there are enough
@@ -60,29 +60,18 @@ module _ (n left first d size : ℕ) (ds : List ℕ) (h : first < size) (long : 
 
   -- the first of all
   pub digits_put
-      : (before after : List ℕ) (at r : ℕ) → left ≤ 9 → d ≡ digit left → Adds (take (size - first) (drop first (set ds first d))) before at after r → Adds (decimal n) before at after r
-  digits_put before after at r one is adds =
+      : (before after : Filled) → left ≤ 9 → d ≡ digit left → Adds (take (size - first) (drop first (set ds first d))) before after → Adds (decimal n) before after
+  digits_put before after one is adds =
       let all : take (size - first) (drop first (set ds first d)) ≡ drop first (set ds first d) = take_all (size - first) _ (omega (arith, length-drop first (set ds first d), length-set ds first d)) in
       let whole : drop first (set ds first d) ≡ decimal n = rw (put_before ds first d (omega arith), so_far, one_digit left one, is) in
       rw (all ∙ whole) at adds
 
 -- two digits, as they were made
 pub adds_two
-    : (b high low : ℕ) {before between after : List ℕ} {at n r : ℕ}
+    : (b high low : ℕ) {before between after : Filled}
     → high ≡ digit (b / 16)
     → low ≡ digit (b % 16)
-    → Adds (high ∷ []) before at between n
-    → Adds (low ∷ []) between n after r
-    → Adds (two_digits b) before at after r
+    → Adds (high ∷ []) before between
+    → Adds (low ∷ []) between after
+    → Adds (two_digits b) before after
 adds_two b high low h l first second = rw (← h, ← l) (adds_both first second)
-
--- and written where there is room for both
-pub two_written
-    : (b high low : ℕ) (before : List ℕ) (at : ℕ)
-    → high ≡ digit (b / 16)
-    → low ≡ digit (b % 16)
-    → at + 2 ≤ length before
-    → Adds (two_digits b) before at (set (set before at high) (at + 1) low) (at + 2)
-two_written b high low before at h l room =
-    let end : at + 2 ≡ at + 1 + 1 = omega arith in
-    rw end (adds_two b high low h l (adds_byte before at high (omega arith)) (adds_byte (set before at high) (at + 1) low (omega (arith, length-set before at high))))

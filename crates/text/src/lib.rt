@@ -1,8 +1,8 @@
-// Text in lent buffers: bytes, decimal and hexadecimal numbers put behind the text so far; and, from the crate below, parts of slices. Standard output
-// from a buffer and standard input into one are in `streams`.
+// Text in lent buffers: decimal and hexadecimal numbers put behind the text so far; and, from the crate below, the buffer and parts of slices. Standard
+// output from a buffer and standard input into one are in `streams`.
 #![tactic(auto)]
 
 mod numerals;
 
-pub use adding::{first, part, put, put_byte, within};
-pub use numerals::{put_hex, put_number, put_numbers, put_shorts};
+pub use adding::{Text, first, part, within};
+pub use numerals::{Number, put_hex, put_number, put_numbers};

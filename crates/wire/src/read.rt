@@ -1,9 +1,9 @@
-// Reading: each message from its own bytes, by the fields' offsets.
+// Reading: each message from its own bytes, by the fields' offsets. A function for each, since no two read the same fields at the same offsets but REQUEST_LIST's
+// and CLEAR_ALL's, which are two messages of MAVLink: one struct for both would let one be taken for the other.
 ghost use Rattle.std.specs.Prelude.{◌≡◌};
 ghost use Rattle.rules.specs.Layouts.{partial_list_id, set_current_id, request_list_id, count_id, clear_all_id, ack_id, request_int_id, item_int_id};
 ghost use Rattle.rules.specs.Messages.{decode};
 ghost use Rattle.wire.specs.Structs.{partial_list_message, set_current_message, request_list_message, count_message, clear_all_message, ack_message, request_int_message, item_int_message};
-ghost use Rattle.item.specs.Patterns.{item_for, patterns};
 
 use crate::structs::{
     Ack, ClearAll, Count, ItemInt, PartialList, RequestInt, RequestList, SetCurrent,
@@ -90,13 +90,12 @@ pub fn read_request_int(own: &[u8; OWN_BYTES]) -> RequestInt
 }
 
 pub fn read_item_int(own: &[u8; OWN_BYTES]) -> ItemInt
-    ensures { (item_int_message result ≡ decode item_int_id own.now) × (result.item ≡ item_for (patterns result.item)) }
+    ensures { item_int_message result ≡ decode item_int_id own.now }
 {
-    let item = item_at(own);
     ItemInt {
         system: own[32],
         component: own[33],
         current: own[35],
-        item,
+        item: item_at(own),
     }
 }

@@ -5,7 +5,6 @@ use mathlib.Core.Bool.{Bool, true, false}
 use Rattle.rules.specs.Limits.{unsupported}
 use Rattle.rules.specs.Messages.{Item}
 use Rattle.rules.specs.Items.{commands, fault_among, not_home, fault}
-use borrow.Author.Rules.{rules}
 use Rattle.item_rules.proofs.verdict.Goals as goal
 
 module _ (home : Bool) (kind count own jumps : ℕ) (i : Item) (t : Bool) (is : t ≡ not_home home kind own i) where
@@ -18,7 +17,7 @@ module _ (home : Bool) (kind count own jumps : ℕ) (i : Item) (t : Bool) (is : 
   listed e f g = rw (← is, e) g
 
 pub returns-then-not_home : goal.returns-then-not_home
-returns-then-not_home c = search (not_home_lem, rules)
+returns-then-not_home c = not_home_lem _ _ _ _ _ _ _ c.not_home.ensures c.if-not_home.true
 
 pub returns : goal.returns
-returns c = search (listed, rules)
+returns c = listed _ _ _ _ _ _ _ c.not_home.ensures c.if-not_home.false _ c.listed_fault.ensures

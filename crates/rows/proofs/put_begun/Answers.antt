@@ -3,4 +3,4 @@ use Rattle.adding.specs.Laws.{adds_after}
 use Rattle.rows.proofs.put_begun.Goals as goal
 
 pub returns : goal.returns
-returns c = adds_after _ _ c.put_byte-end.ensures c.put_numbers.ensures
+returns c = adds_after _ _ c.put_byte.ensures c.put_numbers.ensures

@@ -2,20 +2,5 @@
 use Rattle.adding.specs.Laws.{adds_both}
 use Rattle.rows.proofs.put_line.Goals as goal
 
-pub put-end-requires : goal.put-end-requires
-put-end-requires c = tt
-
-pub put_numbers-end-requires : goal.put_numbers-end-requires
-put_numbers-end-requires c = tt
-
-pub put-end-requires-2 : goal.put-end-requires-2
-put-end-requires-2 c = tt
-
-pub put_hex-end-requires : goal.put_hex-end-requires
-put_hex-end-requires c = tt
-
-pub put-requires : goal.put-requires
-put-requires c = tt
-
 pub returns : goal.returns
-returns c = adds_both c.put-end.ensures (adds_both c.put_numbers-end.ensures (adds_both c.put-end-2.ensures (adds_both c.put_hex-end.ensures c.put.ensures)))
+returns c = adds_both c.put.ensures (adds_both c.put_numbers.ensures (adds_both c.put-2.ensures (adds_both c.put_hex.ensures c.put-3.ensures)))

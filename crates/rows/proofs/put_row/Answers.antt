@@ -3,4 +3,4 @@ use Rattle.adding.specs.Laws.{adds_both}
 use Rattle.rows.proofs.put_row.Goals as goal
 
 pub returns : goal.returns
-returns c = adds_both c.put_begun-end.ensures c.put_byte.ensures
+returns c = adds_both c.put_begun.ensures c.put_byte.ensures

@@ -13,17 +13,19 @@ use mir.Val.{has_key}
 use types.Run.{OneOf, hit}
 use borrow.Author.Tests.{ne_eqb, ltb-true, leb-true}
 use Rattle.rules.specs.Items.{Row, commands, waypoint, return_home, delay, distance, yaw, jump, change_speed, set_servo, return_point}
-use Rattle.item_rules.specs.Table.{lookup, looked_up, no_row}
-use Rattle.item_rules.specs.declared.table.Listing.{Listing}
+use Rattle.std.specs.Prelude.{Option, None}
+use Rattle.std.specs.Option.{option_map}
+use Rattle.item_rules.specs.Table.{row_of, lookup}
+use Rattle.item_rules.specs.declared.table.Row as code
 use Rattle.item_rules.proofs.table.row_of.Goals as goal
 use Rattle.item_rules.proofs.table.row_of.Goals.{in-16-1, in-17-1, in_default+else-command-lt16+then-command-lt20, in_default+else-command-lt16+else-command-lt20+then-command-lt23}
 
 -- looking the command n up finds what l says
-abbrev Agrees : Bool → Listing → ℕ → Type 0
-Agrees home l n = looked_up n l ≡ lookup n (commands home)
+abbrev Agrees : Bool → Option code.Row → ℕ → Type 0
+Agrees home l n = option_map (row_of n) l ≡ lookup n (commands home)
 
-at : (home : Bool) {l m : Listing} {n k : ℕ} → m ≡ l → n ≡ k → Agrees home l k → Agrees home m n
-at home {l} {m} {n} {k} e h a = subst (λ (x : Listing). Agrees home x n) (sym e) (subst (λ (x : ℕ). Agrees home l x) (sym h) a)
+at : (home : Bool) {l m : Option code.Row} {n k : ℕ} → m ≡ l → n ≡ k → Agrees home l k → Agrees home m n
+at home {l} {m} {n} {k} e h a = subst (λ (x : Option code.Row). Agrees home x n) (sym e) (subst (λ (x : ℕ). Agrees home l x) (sym h) a)
 
 -- P at each of w numbers from k on
 abbrev Along : (ℕ → Type 0) → ℕ → ℕ → Type 0
@@ -35,8 +37,8 @@ among P n k zero l h a = absurd (omega arith)
 among P n k (suc w) l h a =
     ⊎_elim (λ e. subst P e a.0) (λ g. among P n (suc k) w g (omega arith) a.1) (eq-or-lt_of_le l)
 
-within : (home : Bool) {l m : Listing} {n : ℕ} (k w : ℕ) → m ≡ l → k ≤ n → n < k + w → Along (Agrees home l) k w → Agrees home m n
-within home {l} {m} {n} k w e low high a = subst (λ (x : Listing). Agrees home x n) (sym e) (among (Agrees home l) n k w low high a)
+within : (home : Bool) {l m : Option code.Row} {n : ℕ} (k w : ℕ) → m ≡ l → k ≤ n → n < k + w → Along (Agrees home l) k w → Agrees home m n
+within home {l} {m} {n} k w e low high a = subst (λ (x : Option code.Row). Agrees home x n) (sym e) (among (Agrees home l) n k w low high a)
 
 -- ---- a command that is none of the match's single ones
 -- the single commands of its arms, the last arm first
@@ -83,7 +85,7 @@ module _ (n low high : ℕ) (l : low ≤ n) (h : n < high) (m : Missed singles n
       go false true p q t = omega (arith, leb-true high k q, e)
       go false false p q t = missed singles m k t (sym e)
 
-  unlisted : (rs : List Row) → T (outside low high rs) → no_row ≡ lookup n rs
+  unlisted : (rs : List Row) → T (outside low high rs) → None ≡ lookup n rs
   unfolding lookup
   unlisted [] t = refl
   unlisted (r ∷ rs) t =

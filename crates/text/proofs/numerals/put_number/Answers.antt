@@ -21,4 +21,4 @@ pub digit-requires-2 : goal.digit-requires-2
 digit-requires-2 c = omega arith
 
 pub returns : goal.returns
-returns c = digits_put _ c.loop-left.left c.loop-left.first _ _ c.loop-left.digits c.loop-left.invariant.0 c.loop-left.invariant.1 c.loop-left.invariant.3 _ _ _ _ c.loop-left-test.false c.digit-2.ensures c.put.ensures
+returns c = digits_put _ c.loop-left.left c.loop-left.first _ _ c.loop-left.digits c.loop-left.invariant.0 c.loop-left.invariant.1 c.loop-left.invariant.3 _ _ c.loop-left-test.false c.digit-2.ensures c.put.ensures

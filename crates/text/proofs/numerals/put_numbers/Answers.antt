@@ -1,20 +1,14 @@
--- `text::numerals::put_numbers` meets its contract. The loop's invariant: the first i are added.
-use Prim.Native.Nat.{◌-◌}
-use borrow.Author.Rules.{rules}
+-- `text::numerals::put_numbers` meets its contract. The loop's invariant: the numbers so far are added.
+use native.Mathlib.Omega.{arith}
 use Rattle.adding.specs.Added.{each}
-use Rattle.text.specs.Digits.{spaced}
-use Rattle.adding.specs.Laws.{adds_nothing, put_each_more, whole_list}
+use Rattle.adding.specs.Laws.{adds_nothing, put_each_as}
+use Rattle.text.specs.Digits.{after_space}
 use Rattle.text.proofs.numerals.put_numbers.Goals as goal
 
-pub loop-i-init : goal.loop-i-init
+pub loop-n-init : goal.loop-n-init
 unfolding each
-loop-i-init c = search (adds_nothing, rules)
+loop-n-init g c = adds_nothing _
 
-pub loop-i-preserved : goal.loop-i-preserved
-loop-i-preserved c = search (put_each_more, rules)
-
-pub shape_of-out : goal.shape_of-out
-shape_of-out c = c.loop-i.invariant.1.room
-
-pub returns : goal.returns
-returns c = search (whole_list spaced, rules)
+pub loop-n-preserved : goal.loop-n-preserved
+loop-n-preserved g c =
+    put_each_as _ _ _ _ c.loop-n.n-index c.n-item.result (omega arith) (λ n. after_space (g.N.Number.number n)) c.n-item.result c.n-item.is c.loop-n.invariant (rw c.wide.ensures at c.put_after_space.ensures)

@@ -1,11 +1,7 @@
-use Prim.Native.Nat.{◌-◌, ◌≤◌}
-use lib.ListN.{length, take}
-use Rattle.adding.specs.Added.{Adds}
-use Rattle.text.specs.Digits.{spaced}
+use lib.ListN.{take}
+use Rattle.adding.specs.Added.{Adds, each}
+use Rattle.text.specs.Digits.{after_space}
 use Rattle.text.proofs.numerals.put_numbers.Given as goal
 
-abbrev pub invariant-loop-i : goal.invariant-loop-i
-invariant-loop-i l = (l.i ≤ length l.list) × Adds (spaced (take l.i l.list)) l.initial.out l.at l.out l.end
-
-abbrev pub decreases-loop-i : goal.decreases-loop-i
-decreases-loop-i l = length l.list - l.i
+abbrev pub invariant-loop-n : goal.invariant-loop-n
+invariant-loop-n g l = Adds (each (λ n. after_space (g.N.Number.number n)) (take l.n-index l.list)) l.initial.text l.text
