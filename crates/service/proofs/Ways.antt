@@ -41,25 +41,6 @@ use Rattle.refine.specs.Messages.{message_agrees}
 use Rattle.own_calls.specs.Calls.{Serves, served_result, refused_serves}
 use Rattle.own_calls.proofs.Ways.{served, applied_serves}
 
--- all of them emptied, one after the other
-all_emptied :
-    (l : List Plan) → length l ≡ length kinds → (current : ℕ) (begun home : Bool) (counts : List ℕ)
-    → ◌≡◌ {A = State}
-    (record {
-      plans = emptied (get_or l flight empty_plan) ∷ emptied (get_or l fence empty_plan) ∷ emptied (get_or l rally empty_plan) ∷ [];
-      current = (fresh_state home).current;
-      begun = (fresh_state home).begun;
-      home = (fresh_state home).home;
-      counts = (fresh_state home).counts;
-    })
-    (emptied_state (record { plans = l; current = current; begun = begun; home = home; counts = counts }) kinds)
-unfolding renewed_state
-all_emptied (a ∷ b ∷ c ∷ []) three current begun home counts = refl
-all_emptied [] three current begun home counts = absurd (omega arith)
-all_emptied (a ∷ []) three current begun home counts = absurd (omega arith)
-all_emptied (a ∷ b ∷ []) three current begun home counts = absurd (omega arith)
-all_emptied (a ∷ b ∷ c ∷ d ∷ l) three current begun home counts = absurd (omega arith)
-
 -- ---- message
 
 -- a message call that is not refused: what its handler may rely on, and what is heard is what was received
@@ -124,61 +105,23 @@ module _ (st : State) (s : Store) (b : Bytes) (own from : Station) (id : ℕ) (p
   abbrev q : Request
   q = request_of (decode id got.own)
 
-  message_serves : (e : Effect) → h.effect ≡ e → Serves c st s s' b b' (served_result (served (applied st k e) h))
-  message_serves e is =
+  pub message_serves : (st' : State) → st' ≡ applied st k h.effect → Serves c st s s' b b' (served_result (served st' h))
+  message_serves st' is =
       let agree = message_agrees words words_lawful st s taken.three taken.long taken.ranges from clock k q (request_kind (in_range (view st s)) c taken.says) in
-      applied_serves c st s s' b b' k (message_done words st.home st.plans st.current s from clock k q) h
+      rw is (applied_serves c st s s' b b' k (message_done words st.home st.plans st.current s from clock k q) h
       (message_steps words words_lawful c st s taken.three taken.ranges taken.long from clock k q taken.says)
       (ap command_in agree.answer ∙ plain_stuck (on_message (view st s) from clock k q).answer (message_plain (view st s) from clock k q))
-      by e is
+      by h.effect refl)
 
-  pub message_nothing : h.effect ≡ Nothing → Serves c st s s' b b' (served_result (served st h))
-  message_nothing is = message_serves Nothing is
-
-  pub message_chooses : (seq : ℕ) → h.effect ≡ Chooses seq → Serves c st s s' b b' (served_result (served (chosen_state st seq) h))
-  message_chooses seq is = message_serves (Chooses seq) is
-
-  pub message_empties :
-      (x y z : Plan) (begins : State) → begins ≡ fresh_state st.home → h.effect ≡ EmptiesAll
-      → x ≡ emptied (plan_of st flight) → y ≡ emptied (plan_of st fence) → z ≡ emptied (plan_of st rally)
-      → Serves c st s s' b b' (served_result (served (record { plans = x ∷ y ∷ z ∷ []; current = begins.current; begun = begins.begun; home = begins.home; counts = begins.counts }) h))
-  message_empties x y z begins new is ex ey ez =
-      rw (new, ex, ey, ez)
-      (subst (λ (t : State). Serves c st s s' b b' (served_result (served t h))) (sym (all_emptied st.plans taken.three st.current st.begun st.home st.counts))
-      (message_serves EmptiesAll is))
-
-  -- a plan that is put in is of a known kind, and stands at its place
+  -- a plan that is put in is of a known kind
   effect_ok : (e : Effect) → h.effect ≡ e → EffectOk words words_lawful k (plan_of st k) e
   effect_ok e is = subst (EffectOk words words_lawful k (plan_of st k)) (sym by.handles.effect ∙ is) (message_effect words words_lawful st s taken.three taken.long taken.ranges from clock k q)
 
-  module _ (place : ℕ) (stands : k ≤ rally → place ≡ k) (plan : Plan) where
-    pub message_turns : h.effect ≡ Turns plan → Serves c st s s' b b' (served_result (served (turned_state st place plan) h))
-    message_turns is = rw (stands (leb-true k rally (effect_ok (Turns plan) is).0)) (message_serves (Turns plan) is)
+  pub known_turned : (p : Plan) → h.effect ≡ Turns p → k ≤ rally
+  known_turned p is = leb-true k rally (effect_ok (Turns p) is).0
 
-    pub message_renews : h.effect ≡ Renews plan → (k ≡ flight → ⊥) → Serves c st s s' b b' (served_result (served (turned_state st place plan) h))
-    unfolding renewed_state
-    message_renews is other =
-        rw (stands (leb-true k rally (effect_ok (Renews plan) is).0))
-        (rw (ne_eqb k flight other) at (message_serves (Renews plan) is))
+  pub known_renewed : (p : Plan) → h.effect ≡ Renews p → k ≤ rally
+  known_renewed p is = leb-true k rally (effect_ok (Renews p) is).0
 
-    pub message_restarts :
-        (begins : State) → begins ≡ fresh_state st.home → h.effect ≡ Renews plan → k ≡ flight
-        → Serves c st s s' b b' (served_result (served (record { plans = set st.plans place plan; current = begins.current; begun = begins.begun; home = begins.home; counts = begins.counts }) h))
-    unfolding renewed_state
-    message_restarts begins new is first =
-        rw (new, stands (leb-true k rally (effect_ok (Renews plan) is).0))
-        (rw (eq-eqb k flight first) at (message_serves (Renews plan) is))
-
-    pub message_changes : h.effect ≡ Changes plan → (k ≡ flight → ⊥) → Serves c st s s' b b' (served_result (served (turned_state st place plan) h))
-    unfolding renewed_state
-    message_changes is other =
-        rw (stands (leb-true k rally (effect_ok (Changes plan) is).0))
-        (rw (ne_eqb k flight other) at (message_serves (Changes plan) is))
-
-    pub message_recounts :
-        h.effect ≡ Changes plan → k ≡ flight
-        → Serves c st s s' b b' (served_result (served (record { plans = set st.plans place plan; current = st.current; begun = st.begun; home = st.home; counts = no_counts }) h))
-    unfolding renewed_state
-    message_recounts is first =
-        rw (stands (leb-true k rally (effect_ok (Changes plan) is).0))
-        (rw (eq-eqb k flight first) at (message_serves (Changes plan) is))
+  pub known_changed : (p : Plan) → h.effect ≡ Changes p → k ≤ rally
+  known_changed p is = leb-true k rally (effect_ok (Changes p) is).0

@@ -7,6 +7,8 @@ ghost use Rattle.rules.specs.Limits as limits;
 ghost use Rattle.rules.specs.Limits.{kinds};
 ghost use Rattle.rules.specs.Messages.{station};
 ghost use Rattle.rules.specs.Calls as calls;
+ghost use Rattle.plan.specs.declared.Plan.{Plan};
+ghost use Rattle.upload.specs.Effects.{applied};
 ghost use Rattle.own_calls.specs.Calls.{Serves, served_result};
 
 use limits::{FLIGHT, JUMP_COUNTS, RALLY};
@@ -29,6 +31,48 @@ fn place_of(kind: u8) -> usize
     ensures { (result < length kinds) × (kind ≤ limits.rally → result ≡ kind) }
 {
     if kind <= RALLY { kind as usize } else { 0 }
+}
+
+// What a handler did, put into the state. A plan that is put in is of a known kind.
+fn apply(state: &mut State, kind: u8, effect: Effect)
+    requires three { length state.old.plans ≡ length kinds }
+    requires turned { (p : Plan) → effect ≡ Effect.Turns p → kind ≤ limits.rally }
+    requires renewed { (p : Plan) → effect ≡ Effect.Renews p → kind ≤ limits.rally }
+    requires changed { (p : Plan) → effect ≡ Effect.Changes p → kind ≤ limits.rally }
+    ensures { state.new ≡ applied state.old kind effect }
+{
+    let k = kind as usize;
+    match effect {
+        Effect::Nothing => {}
+        Effect::Turns(plan) => {
+            state.plans[k] = plan;
+        }
+        Effect::Renews(plan) => {
+            state.plans[k] = plan;
+            if kind == FLIGHT {
+                *state = State {
+                    plans: state.plans,
+                    ..fresh(state.home)
+                };
+            }
+        }
+        Effect::Changes(plan) => {
+            state.plans[k] = plan;
+            if kind == FLIGHT {
+                state.counts = [0; JUMP_COUNTS];
+            }
+        }
+        Effect::EmptiesAll => {
+            *state = State {
+                plans: state.plans.map(emptied),
+                ..fresh(state.home)
+            };
+        }
+        Effect::Chooses(seq) => {
+            state.current = seq;
+            state.begun = false;
+        }
+    }
 }
 
 // A message call. Wrong answers that this rules out: refusing everything, and a reply that goes to another station than the sender.
@@ -82,38 +126,7 @@ pub fn message(
         &got.own,
         clock,
     );
-    match done.effect {
-        Effect::Nothing => {}
-        Effect::Turns(plan) => {
-            state.plans[k] = plan;
-        }
-        Effect::Renews(plan) => {
-            state.plans[k] = plan;
-            if kind == FLIGHT {
-                state = State {
-                    plans: state.plans,
-                    ..fresh(state.home)
-                };
-            }
-        }
-        Effect::Changes(plan) => {
-            state.plans[k] = plan;
-            if kind == FLIGHT {
-                state.counts = [0; JUMP_COUNTS];
-            }
-        }
-        Effect::EmptiesAll => {
-            let [flight, fence, rally] = state.plans;
-            state = State {
-                plans: [emptied(flight), emptied(fence), emptied(rally)],
-                ..fresh(state.home)
-            };
-        }
-        Effect::Chooses(seq) => {
-            state.current = seq;
-            state.begun = false;
-        }
-    }
+    apply(&mut state, kind, done.effect);
     Served {
         state,
         answer: Ok(done.reply),
