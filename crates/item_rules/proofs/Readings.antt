@@ -4,7 +4,7 @@ use mathlib.Core.Path.{◌≡◌, refl, ap}
 use mathlib.Core.Bool.{Bool, true, false, cond, not}
 use lib.IntN.{ℤ}
 use native.Mathlib.Omega.{arith}
-use Rattle.std.specs.Prelude.{Err}
+use Rattle.std.specs.Prelude.{Result, Ok, Err, MatchResult}
 use Rattle.rules.specs.Limits.{accepted, x_limit, y_limit, invalid_x, invalid_y, invalid_z}
 use Rattle.rules.specs.Messages.{Item}
 use Rattle.rules.specs.Values.{Whole, whole_from, signed, within, float, finite}
@@ -12,6 +12,12 @@ use Rattle.rules.specs.Items.{target_in, place_fault}
 use Rattle.values.specs.declared.NotWhole.{NotWhole}
 use Rattle.values.specs.declared.NotWhole.TheVariants.{NoValue, Fraction}
 use Rattle.values.specs.Wholes.{meant}
+
+-- by what a library's method says of the variant that it met
+pub by_reading : {G : Type 0} {P : ℤ → Type 0} {Q : NotWhole → Type 0} (r : Result ℤ NotWhole) → MatchResult r P Q
+    → ((n : ℤ) → r ≡ Ok n → P n → G) → ((e : NotWhole) → r ≡ Err e → Q e → G) → G
+by_reading (Ok n) m f g = f n refl m
+by_reading (Err e) m f g = g e refl m
 
 pub no_whole : {w : Whole} (e : NotWhole) → meant (Err e) ≡ w → (low high : ℤ) → false ≡ whole_from low high w
 unfolding whole_from

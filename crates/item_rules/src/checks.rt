@@ -24,19 +24,15 @@ fn frame_ok(positional: bool, frame: u8) -> bool
 fn whole_within(low: i32, high: i32, x: f32) -> bool
     ensures { result ≡ whole_from low high (whole_of x) }
 {
-    match values::whole_of(x) {
-        Ok(n) => (low <= n) & (n <= high),
-        Err(_) => false,
-    }
+    values::whole_of(x).is_ok_and(|n| (low <= n) & (n <= high))
 }
 
 fn is_target(home: bool, count: u16, own: u16, x: f32) -> bool
     ensures { result ≡ target_in home count own (whole_of x) }
 {
-    match values::whole_of(x) {
-        Ok(n) => (0 <= n) & (n < count as i32) & (n != own as i32) & !(home & (n == 0)),
-        Err(_) => false,
-    }
+    values::whole_of(x).is_ok_and(|n| {
+        (0 <= n) & (n < count as i32) & (n != own as i32) & !(home & (n == 0))
+    })
 }
 
 fn param_ok(rule: ParamRule, count: u16, own: u16, x: f32) -> bool

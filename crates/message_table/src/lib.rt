@@ -120,10 +120,7 @@ pub fn receive(id: u32, payload: &[u8]) -> Option<Received>
     let head = Head {
         system: own[at.target],
         component: own[at.target + 1],
-        kind: match at.kind {
-            Some(kind) => own[kind],
-            None => FLIGHT,
-        },
+        kind: at.kind.map_or(FLIGHT, |kind| own[kind]),
     };
     Some(Received { head, own })
 }

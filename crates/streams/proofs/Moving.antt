@@ -1,62 +1,19 @@
--- Moving the unread bytes of a buffer to its start, byte by byte.
-use Prim.Native.Nat.{ℕ, suc, ◌+◌, ◌-◌, ◌<◌, ◌≤◌, min}
+-- Moving the unread bytes of a buffer to its start.
+use Prim.Native.Nat.{ℕ, ◌+◌, ◌-◌, ◌<◌, ◌≤◌, min}
 use mathlib.Core.Path.{◌≡◌, refl, ap, sym, ◌∙◌}
-use mathlib.Core.List.{List, [], ◌∷◌, ◌++◌}
-use native.Mathlib.Nat.{add_comm}
-use native.Mathlib.Numerals.{add-one}
+use mathlib.Core.List.{List, ◌++◌}
 use native.Mathlib.Omega.{arith}
 use mathlib.Core.Bool.{Bool, true, false, true≢false, ◌&&◌}
 use lib.Dec.{leb}
-use lib.ListN.{length, take, drop, get_or, set, length-append, length-take, length-drop, length-set}
-use lib.Seq.{take-suc, take-suc-set, take-take, length-take-le, take-length, get_or-drop, drop-drop, drop-set-lt}
+use lib.ListN.{length, take, drop, length-append, length-take, length-drop}
+use lib.Seq.{take-take, length-take-le, take-length}
 use borrow.Rule.Slice.PartMut.{put_mid, take_put}
 use borrow.Author.Tests.{leb-true, leb-false, le-leb, lt-leb}
+use Rattle.std.specs.List.{copy_within}
+use Rattle.std.proofs.Math.Seq.{paste}
+use Rattle.std.proofs.lemmas.List.Edits.{take-paste}
 use Rattle.adding.specs.Parts.{front_again}
 use Rattle.streams.specs.Unread.{unread, Moved, ReadBehind, ReadOn}
-
--- the first i bytes are those from a place on, and the others as they were
-pub record Copied (before : List ℕ) (at i : ℕ) (after : List ℕ) : Type 0 where
-  pub front : take i after ≡ take i (drop at before)
-  pub rest : drop i after ≡ drop i before
-  pub room : length after ≡ length before
-
-pub copied_none : (b : List ℕ) (at : ℕ) → Copied b at 0 b
-copied_none b at = record { front = refl; rest = refl; room = refl }
-
-module _ (before after : List ℕ) (at i : ℕ) (h : at + i < length before) (copied : Copied before at i after) where
-  abbrev next : ℕ
-  next = get_or after (at + i) 0
-
-  still : next ≡ get_or (drop at before) i 0
-  still =
-      ap (λ (k : ℕ). get_or after k 0) (add_comm at i)
-      ∙ sym (get_or-drop i after at 0)
-      ∙ ap (λ (l : List ℕ). get_or l at 0) copied.rest
-      ∙ get_or-drop i before at 0
-      ∙ ap (λ (k : ℕ). get_or before k 0) (add_comm i at)
-      ∙ sym (get_or-drop at before i 0)
-
-  front_copied : take (suc i) (set after i next) ≡ take (suc i) (drop at before)
-  front_copied =
-      take-suc-set after i next (omega (arith, copied.room))
-      ∙ ap (λ (l : List ℕ). l ++ (next ∷ [])) copied.front
-      ∙ ap (λ (b : ℕ). take i (drop at before) ++ (b ∷ [])) still
-      ∙ sym (take-suc (drop at before) i 0 (omega (arith, length-drop at before)))
-
-  rest_kept : drop (i + 1) (set after i next) ≡ drop (i + 1) before
-  rest_kept =
-      drop-set-lt (i + 1) after i next (omega arith)
-      ∙ sym (drop-drop 1 i after)
-      ∙ ap (λ (l : List ℕ). drop 1 l) copied.rest
-      ∙ drop-drop 1 i before
-
-  pub copied_more : Copied before at (i + 1) (set after i (get_or after (at + i) 0))
-  copied_more =
-      record {
-        front = rw add-one front_copied;
-        rest = rest_kept;
-        room = length-set after i next ∙ copied.room;
-      }
 
 module _ (before : List ℕ) (at end stop : ℕ) (ends : stop ≡ min end (length before)) where
   size : stop - at ≡ length (unread before at end)
@@ -70,13 +27,18 @@ module _ (before : List ℕ) (at end stop : ℕ) (ends : stop ≡ min end (lengt
       let none : 0 ≡ stop - at = omega arith in
       record { count = none ∙ size; front = ap (λ (k : ℕ). take k (drop at before)) none ∙ front; room = refl }
 
-  pub moved_all : (after : List ℕ) (i : ℕ) → i ≤ stop - at → stop - at ≤ i → Copied before at i after → Moved before at end after (stop - at)
-  moved_all after i most least copied =
-      let all : stop - at ≡ i = omega arith in
+  pub moved_all : (after : List ℕ) → at < stop → after ≡ copy_within before at stop 0 → length after ≡ length before → Moved before at end after (stop - at)
+  moved_all after h is room =
+      let n = stop - at in
+      let same : n ≡ 0 + n = omega arith in
       record {
         count = size;
-        front = ap (λ (k : ℕ). take k after) all ∙ copied.front ∙ ap (λ (k : ℕ). take k (drop at before)) (sym all) ∙ front;
-        room = copied.room;
+        front =
+            ap (λ (l : List ℕ). take n l) is
+            ∙ ap (λ (k : ℕ). take k (paste before 0 (drop at before) n)) same
+            ∙ take-paste before 0 (drop at before) n (omega arith) (omega (arith, length-drop at before))
+            ∙ front;
+        room = room;
       }
 
 pub fits_behind : (before after : List ℕ) (at end r : ℕ) → Moved before at end after r → r ≤ length after

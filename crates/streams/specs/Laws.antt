@@ -1,15 +1,15 @@
 -- Laws of making room.
-use Rattle.std.specs.Prelude.{ℕ, ◌+◌, ◌-◌, ◌<◌, ◌≤◌, min, ◌≡◌, List, length}
-use Rattle.std.proofs.Math.Path.{sym}
-use Rattle.std.proofs.Common.{◌∙◌, arith, le-leb}
+use Rattle.std.specs.Prelude.{ℕ, ◌<◌, ◌≤◌, ◌≡◌}
+use Rattle.std.proofs.Common.{le-leb}
 use Rattle.std.proofs.lemmas.Bool.{lt-leb}
+use Rattle.adding.specs.Added.{Filled, emptied, size_of}
 use Rattle.streams.specs.Sent.{sent}
 
-module _ (out : List ℕ) (at room end : ℕ) (is : end ≡ min at (length out)) where
-  pub sent_none : room ≤ length out - end → end ≡ sent out at room
+module _ (filled : Filled) (room : ℕ) where
+  pub sent_none : room ≤ filled.left → filled ≡ sent filled room
   unfolding sent
-  sent_none h = is ∙ sym (rw (le-leb (min at (length out) + room) (length out) (omega arith)))
+  sent_none h = rw (le-leb room filled.left h)
 
-  pub sent_all : length out - end < room → 0 ≡ sent out at room
+  pub sent_all : filled.left < room → emptied (size_of filled) ≡ sent filled room
   unfolding sent
-  sent_all h = sym (rw (lt-leb (min at (length out) + room) (length out) (omega arith)))
+  sent_all h = rw (lt-leb room filled.left h)

@@ -1,6 +1,7 @@
 -- Text that is written to make room.
-use Rattle.std.specs.Prelude.{ℕ, ◌+◌, min, cond, List, leb, length}
+use Rattle.std.specs.Prelude.{ℕ, cond, leb}
+use Rattle.adding.specs.Added.{Filled, emptied, size_of}
 
--- where a text ends after it was made room for: where it did, or at the buffer's start once it is written
-unfoldable pub sent : List ℕ → ℕ → ℕ → ℕ
-sent out at room = let end = min at (length out) in cond (leb (end + room) (length out)) end 0
+-- text as it was, or none once it is written, where there was less room behind it than asked for
+unfoldable pub sent : Filled → (room : ℕ) → Filled
+sent filled room = cond (leb room filled.left) filled (emptied (size_of filled))

@@ -12,34 +12,27 @@ pub struct Unread {
     pub end: usize,
 }
 
-// The bytes from one place up to another go to the start. How many there are.
-fn move_front(buffer: &mut [u8], at: usize, end: usize) -> usize
-    ensures { Moved buffer.old at end buffer.new result }
+// The unread bytes go to the start. How many there are.
+fn move_front(buffer: &mut [u8], unread: Unread) -> usize
+    ensures { Moved buffer.old unread.at unread.end buffer.new result }
 {
-    let stop = within(end, buffer);
+    let at = unread.at;
+    let stop = within(unread.end, buffer);
     if stop <= at {
         return 0;
     }
-    let n = stop - at;
-    let mut i = 0;
-    while i < n {
-        buffer[i] = buffer[at + i];
-        i += 1;
-    }
-    n
+    buffer.copy_within(at..stop, 0);
+    stop - at
 }
 
 // One read, for which a failed one gives no bytes, as the input's end does.
 fn read_some<R: Read>(input: &mut R, buffer: &mut [u8]) -> usize
     ensures { result ≤ length buffer.new }
 {
-    match input.read(buffer) {
-        Ok(n) => n,
-        Err(_) => 0,
-    }
+    input.read(buffer).unwrap_or(0)
 }
 
-// The input goes into the buffer from its start on, until it is full, or the input ends or fails. How many bytes came.
+// The input goes into the buffer from its start on, until it is full, or the input ends or fails. How many bytes came. (`read_exact` does not tell it.)
 fn read_full<R: Read>(input: &mut R, buffer: &mut [u8]) -> usize
     ensures { result ≤ length buffer.new }
 {
@@ -63,24 +56,24 @@ fn read_behind<R: Read>(input: &mut R, buffer: &mut [u8], at: usize) -> usize
 }
 
 // Whether n bytes are unread.
-fn enough(buffer: &[u8], at: usize, end: usize, n: usize) -> bool
-    ensures { result ≡ (leb (n + at) end && leb end (length buffer.now)) }
+fn enough(buffer: &[u8], unread: Unread, n: usize) -> bool
+    ensures { result ≡ (leb (n + unread.at) unread.end && leb unread.end (length buffer.now)) }
 {
-    if end < at {
+    if unread.end < unread.at {
         return false;
     }
-    (n <= end - at) & (end <= buffer.len())
+    (n <= unread.end - unread.at) & (unread.end <= buffer.len())
 }
 
 // Unless n bytes are unread, those that are go to the buffer's start, and the input is read behind them: as much as there is room
 // for, or all that is left of it. A failed read is the input's end.
-pub fn read_on<R: Read>(input: &mut R, buffer: &mut [u8], at: usize, end: usize, n: usize) -> Unread
-    ensures { ReadOn buffer.old at end n buffer.new result.at result.end }
+pub fn read_on<R: Read>(input: &mut R, buffer: &mut [u8], unread: Unread, n: usize) -> Unread
+    ensures { ReadOn buffer.old unread.at unread.end n buffer.new result.at result.end }
 {
-    if enough(buffer, at, end, n) {
-        return Unread { at, end };
+    if enough(buffer, unread, n) {
+        return unread;
     }
-    let kept = move_front(buffer, at, end);
+    let kept = move_front(buffer, unread);
     let more = read_behind(input, buffer, kept);
     Unread {
         at: 0,

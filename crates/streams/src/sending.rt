@@ -2,18 +2,16 @@
 ghost use Rattle.std.specs.Prelude.{◌≡◌};
 ghost use Rattle.streams.specs.Sent.{sent};
 
-use adding::within;
+use adding::Text;
 use std::io::Write;
 
-// Where the text so far leaves less room than asked for, it is written, and the next text begins at the buffer's start. The answer is where the
-// text then ends. What a failed write left unwritten is lost.
-pub fn send<W: Write>(output: &mut W, out: &[u8], at: usize, room: usize) -> usize
-    ensures { result ≡ sent out.now at room }
+// Where the text so far leaves less room than asked for, it is written, and the next text begins at the buffer's start. What a failed write left
+// unwritten is lost.
+pub fn send<W: Write>(output: &mut W, text: &mut Text, room: usize)
+    ensures { text.new ≡ sent text.old room }
 {
-    let end = within(at, out);
-    if room <= out.len() - end {
-        return end;
+    if text.room() < room {
+        let _ = output.write_all(text.as_bytes());
+        text.clear();
     }
-    let _ = output.write_all(&out[..end]);
-    0
 }

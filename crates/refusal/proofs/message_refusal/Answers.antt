@@ -91,3 +91,7 @@ returns-clause-outcome c from id p clock sized known =
     let is : c.args.received ≡ Some c.in_ok-got.got = grind arith in
     passes _ _ _ from id p clock _ _ c.in_ok-room_refusal.ensures _ sized c.if-payload_len-eq0.false _ known _ is _ _
     c.ours_or_all.ensures c.ours_or_all-2.ensures c.if-not-ours_or_all.false
+
+pub returns-clause-given : goal.returns-clause-given
+returns-clause-given c = let is : c.args.received ≡ Some c.in_ok-got.got = grind arith in
+    is

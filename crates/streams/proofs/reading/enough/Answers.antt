@@ -3,8 +3,8 @@ use borrow.Author.Rules.{rules}
 use Rattle.streams.proofs.Moving.{not_enough, is_enough}
 use Rattle.streams.proofs.reading.enough.Goals as goal
 
-pub returns-then-end-at : goal.returns-then-end-at
-returns-then-end-at c = search (not_enough, rules)
+pub returns-then-unread : goal.returns-then-unread
+returns-then-unread c = search (not_enough, rules)
 
 pub returns : goal.returns
 returns c = search (is_enough, rules)

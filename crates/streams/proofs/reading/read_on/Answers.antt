@@ -11,4 +11,4 @@ read_behind-more-requires g c = search (fits_behind, rules)
 
 pub returns : goal.returns
 returns g c = let a = c.args in
-    read_more a.buffer.now a.at a.end a.n c.enough.result c.enough.ensures _ _ _ _ c.if-enough.false c.move_front-kept.ensures c.read_behind-more.ensures
+    read_more a.buffer.now a.unread.at a.unread.end a.n c.enough.result c.enough.ensures _ _ _ _ c.if-enough.false c.move_front-kept.ensures c.read_behind-more.ensures

@@ -2,10 +2,8 @@
 use Rattle.streams.specs.Laws.{sent_none, sent_all}
 use Rattle.streams.proofs.sending.send.Goals as goal
 
-pub returns-then-room-out : goal.returns-then-room-out
-returns-then-room-out g c = let a = c.args in
-    sent_none a.out.now a.at a.room c.within-end.result c.within-end.ensures.value c.if-room-out.true
+pub returns-then-room : goal.returns-then-room
+returns-then-room g c = rw c.clear.ensures (sent_all c.args.text.now c.args.room (rw c.room.ensures at c.if-room.true))
 
-pub returns : goal.returns
-returns g c = let a = c.args in
-    sent_all a.out.now a.at a.room c.within-end.result c.within-end.ensures.value c.if-room-out.false
+pub returns-else-room : goal.returns-else-room
+returns-else-room g c = sent_none c.args.text.now c.args.room (rw c.room.ensures at c.if-room.false)
