@@ -1,65 +1,38 @@
 -- The parts of a command's words.
-use Prim.Native.Nat.{ℕ, ◌*◌}
-use mathlib.Core.Path.{◌≡◌, refl, sym, subst, ◌∙◌}
-use mathlib.Core.Bool.{Bool, true, false, true≢false, not, beq}
+use Prim.Native.Nat.{ℕ, ◌/◌, ◌%◌, ◌^◌, ◌<◌}
+use mathlib.Core.Path.{◌≡◌, refl, sym}
+use mathlib.Core.Bool.{true, true≢false}
 use mathlib.Core.List.{List, [], ◌∷◌, ◌++◌, append_assoc}
-use lib.Dec.{T}
-use lib.Ieee.{Float, nan, inf, fin, up, down, eq, is_nan, binary32, to_bits}
-use lib.ListN.{take, drop}
-use borrow.Author.Tests.{eq-eqb}
-use Rattle.adding.specs.Added.{Adds, each}
+use native.Mathlib.Omega.{arith}
+use lib.Ieee.{Float, nan, inf, fin, is_nan, binary32, to_bits}
+use Rattle.std.specs.Int.{w32, to_be_bytes}
+use Rattle.adding.specs.Added.{Filled, Adds}
 use Rattle.text.specs.Words.{ascii}
 use Rattle.text.specs.Digits.{spaced}
 use Rattle.rows.specs.Rows.{line}
-use Rattle.command.specs.declared.Command.{Command}
-use Rattle.command_words.specs.declared.Answer.{Answer}
-use Rattle.command_words.specs.Commands.{high_first, value_text, command_text, words, word_of, answer_line}
+use Rattle.command_words.specs.Commands.{high_first, value_text}
 
 -- values
 
-pub no_nan : (x : Float) → eq x x ≡ true → T (not (is_nan x))
-unfolding eq is_nan
-no_nan nan h = subst T (sym h) tt
-no_nan (inf s) h = tt
-no_nan (fin s m e) h = tt
-
-signs_same : (s : Bool) → beq s s ≡ true
-signs_same true = refl
-signs_same false = refl
-
-pub nan_bits : (x : Float) → eq x x ≡ false → 2143289344 ≡ to_bits binary32 x
-unfolding eq to_bits
+pub nan_bits : (x : Float) → is_nan x ≡ true → 2143289344 ≡ to_bits binary32 x
+unfolding is_nan to_bits
 nan_bits nan h = refl
-nan_bits (inf s) h = absurd (true≢false (sym (signs_same s) ∙ h))
-nan_bits (fin s m e) h =
-    let n = m * up e * down e in
-    absurd (true≢false (sym (rw (eq-eqb n n refl, signs_same s)) ∙ h))
+nan_bits (inf s) h = absurd (true≢false (sym h))
+nan_bits (fin s m e) h = absurd (true≢false (sym h))
 
--- what is told of a command
+pub highest_first : (n : ℕ) → n < 4294967296 → to_be_bytes w32 n ≡ high_first n
+highest_first n h =
+    let a : n / 256 ^ 3 % 256 ≡ n / 16777216 = omega arith in
+    let b : n / 256 ^ 2 % 256 ≡ n / 65536 % 256 = omega arith in
+    let c : n / 256 ^ 1 % 256 ≡ n / 256 % 256 = omega arith in
+    λ i. a i ∷ b i ∷ c i ∷ n % 256 ∷ []
 
-module _ (from letters : ℕ) where
-  pub Value-line
-      : (n b : ℕ) (x : Float)
-      → b ≡ to_bits binary32 x
-      → line (word_of from letters) (n ∷ []) (ascii " ") (high_first b) (ascii "\n") ≡ (word_of from letters ++ (spaced (n ∷ []) ++ value_text x)) ++ ascii "\n"
-  Value-line n b x e = rw (e, append_assoc (word_of from letters) (spaced (n ∷ []) ++ value_text x) (ascii "\n"), append_assoc (spaced (n ∷ [])) (value_text x) (ascii "\n"))
+-- a value behind a word and a number
 
-  pub numbers_line : (ns : List ℕ) → line (word_of from letters) ns [] [] (ascii "\n") ≡ (word_of from letters ++ spaced ns) ++ ascii "\n"
-  unfolding each
-  numbers_line ns = rw (append_assoc (word_of from letters) (spaced ns) (ascii "\n"))
-
-pub is_answer : (command is : Command) (t : Answer) → command ≡ is → answer_line t ≡ command_text is ++ ascii "\n" → answer_line t ≡ command_text command ++ ascii "\n"
-is_answer command is t e same = rw e same
-
-pub answer_put
-    : (command : Command) (t : Answer) (all word ns mark value before after : List ℕ) (at r : ℕ)
-    → answer_line t ≡ command_text command ++ ascii "\n"
-    → all ≡ words
-    → word ≡ take t.letters (drop t.from all)
-    → ns ≡ take t.numbers t.list
-    → mark ≡ take t.bytes (ascii " ")
-    → value ≡ take t.bytes t.value
-    → Adds (line word ns mark value (ascii "\n")) before at after r
-    → Adds (command_text command ++ ascii "\n") before at after r
-unfolding answer_line
-answer_put command t all word ns mark value before after at r same is w l m v adds = rw (← same, ← is, ← w, ← l, ← m, ← v) adds
+pub value_line
+    : (word bytes : List ℕ) (n : ℕ) (x : Float) {before after : Filled}
+    → bytes ≡ high_first (to_bits binary32 x)
+    → Adds (line word (n ∷ []) (ascii " ") bytes (ascii "\n")) before after
+    → Adds ((word ++ (spaced (n ∷ []) ++ value_text x)) ++ ascii "\n") before after
+value_line word bytes n x is adds =
+    rw (append_assoc word (spaced (n ∷ []) ++ value_text x) (ascii "\n"), append_assoc (spaced (n ∷ [])) (value_text x) (ascii "\n"), ← is) adds

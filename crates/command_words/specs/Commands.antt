@@ -1,11 +1,9 @@
 -- A command in words, as the lines of a call script have it.
-use Rattle.std.specs.Prelude.{ℕ, ◌/◌, ◌%◌, List, [], ◌∷◌, ◌++◌, Float, take, drop}
+use Rattle.std.specs.Prelude.{ℕ, ◌/◌, ◌%◌, List, [], ◌∷◌, ◌++◌, Float}
 use Rattle.std.specs.Float.{binary32}
 use Rattle.std.specs.Float.Ieee.{to_bits}
 use Rattle.text.specs.Words.{ascii}
 use Rattle.text.specs.Digits.{spaced, hex}
-use Rattle.rows.specs.Rows.{line}
-use Rattle.command_words.specs.declared.Answer.{Answer}
 use Rattle.command.specs.declared.Command.{Command}
 use Rattle.command.specs.declared.Command.TheVariants.{Fly, Wait, Near, Turn, Speed, Servo, Finished, Stuck}
 
@@ -26,13 +24,3 @@ command_text (Speed n x) = ascii " speed" ++ (spaced (n ∷ []) ++ value_text x)
 command_text (Servo n channel pulse) = ascii " servo" ++ spaced (n ∷ channel ∷ pulse ∷ [])
 command_text Finished = ascii " finished"
 command_text Stuck = ascii " stuck"
-
--- the same as the code holds it, with a part of all words, as the rest of a line
-abbrev pub words : List ℕ
-words = ascii " fly wait near turn speed servo finished stuck"
-
-abbrev pub word_of : (from letters : ℕ) → List ℕ
-word_of from letters = take letters (drop from words)
-
-unfoldable pub answer_line : Answer → List ℕ
-answer_line t = line (word_of t.from t.letters) (take t.numbers t.list) (take t.bytes (ascii " ")) (take t.bytes t.value) (ascii "\n")

@@ -1,228 +1,142 @@
 // What each record does: a call of the service with its line, or what a host does between the calls.
 use lines::REPLY_FILL;
 use plan::State;
-use script::{HEADER_BYTES, OLD_ARRAY, REPLY_ARRAY, Record, STORE_ARRAY};
+use script::{HEADER_BYTES, Kind, OLD_ARRAY, REPLY_ARRAY, Record, STORE_ARRAY, Target};
 use streams::Unread;
+use text::Text;
 
-// The state after a record, and where the text of lines ends.
-#[derive(Clone, Copy)]
-pub struct Played {
-    pub state: State,
-    pub at: usize,
+// The arrays that a script's calls are lent, the store's words and the old store's bytes, and a copy of either.
+pub struct Arrays {
+    store: [u32; STORE_ARRAY],
+    copy: [u32; STORE_ARRAY],
+    old: [u8; OLD_ARRAY],
+    old_copy: [u8; OLD_ARRAY],
 }
 
-// The front part of an array that a call is lent: of bytes, and of words.
-fn front(bytes: &mut [u8], n: usize) -> &mut [u8] {
-    let end = text::within(n, bytes);
-    &mut bytes[..end]
+impl Arrays {
+    pub fn new() -> Arrays {
+        Arrays {
+            store: [0; STORE_ARRAY],
+            copy: [0; STORE_ARRAY],
+            old: [0; OLD_ARRAY],
+            old_copy: [0; OLD_ARRAY],
+        }
+    }
+
+    // Every byte of both stores becomes the same.
+    fn fill(&mut self, byte: u8) {
+        self.store = [u32::from_le_bytes([byte; 4]); STORE_ARRAY];
+        self.old = [byte; OLD_ARRAY];
+    }
+
+    // Copies the store array or the old one aside.
+    fn snap(&mut self, of_old: bool) {
+        if of_old {
+            self.old_copy = self.old;
+        } else {
+            self.copy = self.store;
+        }
+    }
+
+    // Whether the store array or the old one is as its copy.
+    fn same(&self, of_old: bool) -> bool {
+        if of_old {
+            return self.old == self.old_copy;
+        }
+        writing::same_words(&self.store, &self.copy)
+    }
 }
 
-fn front_words(words: &mut [u32], n: usize) -> &mut [u32] {
-    let end = text::within(n, words);
-    &mut words[..end]
+// The front part of an array that a call is lent.
+fn front<T>(list: &mut [T], n: usize) -> &mut [T] {
+    let end = text::within(n, list);
+    &mut list[..end]
 }
 
-// A message call, which is lent a front part of a slice.
-fn deliver(
-    r: Record,
-    payload: &[u8],
-    out: &mut [u8],
-    at: usize,
-    store: &mut [u32],
-    state: State,
-) -> Played {
+// A message call.
+fn message(record: Record, payload: &[u8], text: &mut Text, store: &mut [u32], state: State) -> State {
     let mut reply = [REPLY_FILL; REPLY_ARRAY];
     let served = service::message(
         state,
-        front_words(store, r.store),
-        front(&mut reply, r.reply),
-        r.b0,
-        r.b1,
-        r.b2,
-        r.b3,
-        r.a,
+        front(store, record.store),
+        front(&mut reply, record.reply),
+        record.b0,
+        record.b1,
+        record.b2,
+        record.b3,
+        record.a,
         payload,
-        r.clock,
+        record.clock,
     );
-    let at = lines::put_served(out, at, b'm', served.outcome, served.id, served.len, &reply);
-    let state = served.state;
-    Played { state, at }
+    lines::put_served(text, b'm', served.outcome, served.id, served.len, &reply);
+    served.state
 }
 
-// The same of the store's array: of an array behind a reference no part can be lent, of a slice it can.
-pub fn message(
-    r: Record,
-    payload: &[u8],
-    out: &mut [u8],
-    at: usize,
-    store: &mut [u32; STORE_ARRAY],
-    state: State,
-) -> Played {
-    deliver(r, payload, out, at, store, state)
-}
-
-pub fn timer(
-    r: Record,
-    out: &mut [u8],
-    at: usize,
-    store: &[u32; STORE_ARRAY],
-    state: State,
-) -> Played {
+fn timer(record: Record, text: &mut Text, store: &[u32], state: State) -> State {
     let mut reply = [REPLY_FILL; REPLY_ARRAY];
-    let lent: &mut [u8] = &mut reply;
-    let reply_end = text::within(r.reply, lent);
     let served = service::timer(
         state,
-        text::part(store, 0, r.store),
-        &mut lent[..reply_end],
-        r.b4,
-        r.clock,
+        text::first(store, record.store),
+        front(&mut reply, record.reply),
+        record.b4,
+        record.clock,
     );
-    let at = lines::put_served(out, at, b't', served.outcome, served.id, served.len, &reply);
-    let state = served.state;
-    Played { state, at }
+    lines::put_served(text, b't', served.outcome, served.id, served.len, &reply);
+    served.state
 }
 
-fn done(r: Record, out: &mut [u8], at: usize, store: &[u32], state: State) -> Played {
-    let advanced = service::advance(state, text::part(store, 0, r.store));
-    let command = advanced.command;
-    let at = lines::put_done(out, at, advanced.outcome, command);
-    let state = advanced.state;
-    Played { state, at }
+fn done(record: Record, text: &mut Text, store: &[u32], state: State) -> State {
+    let advanced = service::advance(state, text::first(store, record.store));
+    lines::put_done(text, advanced.outcome, advanced.command);
+    advanced.state
 }
 
 // A move: the plans of the old store go into the store.
-fn moved(
-    r: Record,
-    out: &mut [u8],
-    at: usize,
-    store: &mut [u32],
-    old: &[u8],
-    state: State,
-) -> Played {
-    let from = text::part(old, 0, r.a as usize);
-    let moved = moves::to_words(state, from, front_words(store, r.store));
-    let at = lines::put_moved(out, at, moved.outcome);
-    let state = moved.state;
-    Played { state, at }
-}
-
-// A word whose four bytes are the same.
-fn filled(byte: u8) -> u32 {
-    byte as u32 * 0x101_0101
-}
-
-// Copies the store array or the old one aside.
-fn snap(
-    r: Record,
-    store: &[u32; STORE_ARRAY],
-    copy: &mut [u32; STORE_ARRAY],
-    old: &[u8; OLD_ARRAY],
-    old_copy: &mut [u8; OLD_ARRAY],
-) {
-    if r.b4 == script::OLD {
-        *old_copy = *old;
-        return;
-    }
-    *copy = *store;
-}
-
-// Whether the store array or the old one is as its copy.
-fn same(
-    r: Record,
-    store: &[u32; STORE_ARRAY],
-    copy: &[u32; STORE_ARRAY],
-    old: &[u8; OLD_ARRAY],
-    old_copy: &[u8; OLD_ARRAY],
-) -> bool {
-    if r.b4 == script::OLD {
-        return *old == *old_copy;
-    }
-    writing::same_words(store, copy)
+fn moved(record: Record, text: &mut Text, store: &mut [u32], old: &[u8], state: State) -> State {
+    let from = text::first(old, record.a as usize);
+    let moved = moves::to_words(state, from, front(store, record.store));
+    lines::put_moved(text, moved.outcome);
+    moved.state
 }
 
 // A host writes words, items of a plan in either half, or bytes of the old store.
-fn write(
-    r: Record,
-    payload: &[u8],
-    store: &mut [u32; STORE_ARRAY],
-    old: &mut [u8; OLD_ARRAY],
-    state: State,
-) {
-    let to = r.b4;
-    let a = r.a as usize;
-    if to == script::TO_OLD {
-        writing::write(old, a, payload);
+fn write(record: Record, payload: &[u8], arrays: &mut Arrays, state: State) {
+    let Ok(target) = Target::try_from(record.b4) else {
         return;
-    }
-    if to == script::TO_WORDS {
-        writing::write_words(store, a, payload);
-        return;
-    }
-    let n = (r.a % 0x1_0000) as u16;
-    let word = host::item_word(state, r.b0, to == script::TO_OTHER_HALF, n);
-    writing::write_words(store, word, payload);
-}
-
-// What a host does between the calls.
-fn between(
-    r: Record,
-    payload: &[u8],
-    store: &mut [u32; STORE_ARRAY],
-    copy: &mut [u32; STORE_ARRAY],
-    old: &mut [u8; OLD_ARRAY],
-    old_copy: &mut [u8; OLD_ARRAY],
-    state: State,
-) -> State {
-    let kind = r.kind;
-    match kind {
-        script::FRESH => {
-            *store = [filled(r.b0); STORE_ARRAY];
-            *old = [r.b0; OLD_ARRAY];
-            service::fresh(r.b4 == script::HOME)
+    };
+    let at = record.a as usize;
+    match target {
+        Target::Words => writing::write_words(&mut arrays.store, at, payload),
+        Target::Old => writing::write(&mut arrays.old, at, payload),
+        Target::Plan | Target::OtherHalf => {
+            let n = (record.a % 0x1_0000) as u16;
+            let word = host::item_word(state, record.b0, target == Target::OtherHalf, n);
+            writing::write_words(&mut arrays.store, word, payload);
         }
-        script::SNAP => {
-            snap(r, store, copy, old, old_copy);
-            state
-        }
-        script::POKE => host::poked(state, r.b4, r.b0, r.a),
-        script::WRITE => {
-            write(r, payload, store, old, state);
-            state
-        }
-        _ => state,
     }
 }
 
-// Plays a record that is neither a message call nor a timer call.
-pub fn other(
-    r: Record,
-    payload: &[u8],
-    out: &mut [u8],
-    at: usize,
-    store: &mut [u32; STORE_ARRAY],
-    copy: &mut [u32; STORE_ARRAY],
-    old: &mut [u8; OLD_ARRAY],
-    old_copy: &mut [u8; OLD_ARRAY],
-    state: State,
-) -> Played {
-    let kind = r.kind;
+// Plays a record: the state after it.
+pub fn play(record: Record, payload: &[u8], text: &mut Text, arrays: &mut Arrays, state: State) -> State {
+    let of_old = record.b4 == script::OLD;
+    let kind = record.kind;
     match kind {
-        script::DONE => done(r, out, at, store, state),
-        script::DUMP => {
-            let at = dump::put_dump(out, at, r.b4, state, store);
-            Played { state, at }
+        Kind::Message => return message(record, payload, text, &mut arrays.store, state),
+        Kind::Timer => return timer(record, text, &arrays.store, state),
+        Kind::Done => return done(record, text, &arrays.store, state),
+        Kind::Move => return moved(record, text, &mut arrays.store, &arrays.old, state),
+        Kind::Poke => return host::poked(state, record.b4, record.b0, record.a),
+        Kind::Fresh => {
+            arrays.fill(record.b0);
+            return service::fresh(record.b4 == script::HOME);
         }
-        script::CMP => {
-            let at = rows::put_row(out, at, b's', &[same(r, store, copy, old, old_copy) as u64]);
-            Played { state, at }
-        }
-        script::MOVE => moved(r, out, at, store, old, state),
-        _ => {
-            let state = between(r, payload, store, copy, old, old_copy, state);
-            Played { state, at }
-        }
+        Kind::Dump => dump::put_dump(text, record.b4, state, &arrays.store),
+        Kind::Snap => arrays.snap(of_old),
+        Kind::Compare => rows::put_row(text, b's', &[arrays.same(of_old) as u64]),
+        Kind::Write => write(record, payload, arrays, state),
+        Kind::End => {}
     }
+    state
 }
 
 // How many bytes are unread.
@@ -231,10 +145,10 @@ pub fn left(unread: Unread) -> usize {
 }
 
 // What is unread after a record.
-pub fn past(unread: Unread, r: Record) -> Unread {
+pub fn past(unread: Unread, record: Record) -> Unread {
     let at = std::num::wrapping_add_usize(unread.at, HEADER_BYTES);
     Unread {
-        at: std::num::wrapping_add_usize(at, r.len),
+        at: std::num::wrapping_add_usize(at, record.len),
         end: unread.end,
     }
 }

@@ -1,3 +1,3 @@
 -- Laws that the proofs cite.
-mod PlanWays
 mod Ways
+mod PlanWays

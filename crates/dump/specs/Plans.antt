@@ -1,10 +1,9 @@
 -- The lines of a dump that tell a kind's plan and upload, and the items of both.
-use Rattle.std.specs.Prelude.{ℕ, zero, suc, ◌+◌, ◌-◌, Bool, not, cond, [], ◌∷◌, ◌++◌}
+use Rattle.std.specs.Prelude.{ℕ, zero, suc, ◌+◌, ◌-◌, Bool, not, cond, [], ◌∷◌, ◌++◌, Option, Some, None}
 use Rattle.rules.specs.Payload.{Bytes}
 use Rattle.rules.specs.Model.{shown_number}
 use Rattle.plan.specs.declared.Plan.{Plan}
-use Rattle.plan.specs.declared.Upload.{Upload}
-use Rattle.plan.specs.declared.Upload.TheVariants.{Idle, Running}
+use Rattle.plan.specs.declared.Run.{Run}
 use Rattle.places.specs.Forms.{Store, words, item_at}
 use Rattle.text.specs.Words.{ascii}
 use Rattle.rows.specs.Rows.{begun, row, line}
@@ -24,15 +23,15 @@ unfoldable pub part_text : (partial : Bool) (first last : ℕ) → Bytes
 part_text partial first last = cond partial (ascii " " ++ row 80 (first ∷ last ∷ [])) (ascii "\n")
 
 -- "`u K -` (no upload) or `u K SYSTEM COMPONENT COUNT NEXT START REPEATS`"
-unfoldable pub upload_line : (kind : ℕ) → Upload → Bytes
-upload_line kind Idle = begun 117 (kind ∷ []) ++ ascii " -\n"
-upload_line kind (Running r) =
-    begun 117 (kind ∷ r.system ∷ r.component ∷ r.count ∷ r.next ∷ r.started ∷ r.repeats ∷ []) ++ part_text r.partial r.first r.last
+unfoldable pub upload_line : (kind : ℕ) → Option Run → Bytes
+upload_line kind None = begun 117 (kind ∷ []) ++ ascii " -\n"
+upload_line kind (Some r) =
+    begun 117 (kind ∷ r.from.system ∷ r.from.component ∷ r.count ∷ r.next ∷ r.started ∷ r.repeats ∷ []) ++ part_text r.partial r.first r.last
 
 -- "its `w` lines run from FIRST to NEXT - 1" (M-108); a whole upload's first number is 0
-unfoldable pub brought_lines : (kind : ℕ) (half : Bool) → Upload → Store → Bytes
-brought_lines kind half Idle store = []
-brought_lines kind half (Running r) store = item_lines 119 kind half store r.first (r.next - r.first)
+unfoldable pub brought_lines : (kind : ℕ) (half : Bool) → Option Run → Store → Bytes
+brought_lines kind half None store = []
+brought_lines kind half (Some r) store = item_lines 119 kind half store r.first (r.next - r.first)
 
 -- a plan's half, or a mark in its place
 unfoldable pub half_mark : (halves half : Bool) → Bytes

@@ -10,46 +10,40 @@ ghost use Rattle.plan.specs.View.{view};
 ghost use Rattle.adding.specs.Added.{Adds};
 ghost use Rattle.dump.specs.Dumps.{current_line, home_line, state_text, dump_text};
 
-use limits::{FENCE, FLIGHT, JUMP_COUNTS, OUT_OF_RANGE, RALLY};
+use limits::{FENCE, FLIGHT, JUMP_COUNTS, RALLY, Refusal};
 use plan::State;
 use plans::put_kind;
+use text::Text;
 
 // The current item, whether it is begun, and the jump counts.
-fn put_current(
-    out: &mut [u8],
-    at: usize,
-    current: u16,
-    begun: bool,
-    counts: [u16; JUMP_COUNTS],
-) -> usize
-    ensures { Adds (current_line current begun counts) out.old at out.new result }
+fn put_current(text: &mut Text, current: u16, begun: bool, counts: [u16; JUMP_COUNTS])
+    ensures { Adds (current_line current begun counts) text.old text.new }
 {
-    let list = [current as u64, begun as u64];
-    let end = rows::put_begun(out, at, b'c', &list);
-    let end = text::put_shorts(out, end, &counts);
-    text::put_byte(out, end, b'\n')
+    rows::put_begun(text, b'c', &[current as u64, begun as u64]);
+    text::put_numbers(text, &counts);
+    text.put_byte(b'\n');
 }
 
 // Where item 0 is home a line says so; without the setting nothing is put.
-fn put_home(out: &mut [u8], at: usize, home: bool) -> usize
-    ensures { Adds (home_line home) out.old at out.new result }
+#[tactic(auto, unfolding(crate::specs::Dumps::home_line))]
+fn put_home(text: &mut Text, home: bool)
+    ensures { Adds (home_line home) text.old text.new }
 {
     if home {
-        return rows::put_row(out, at, b'h', &[1]);
+        rows::put_row(text, b'h', &[1]);
     }
-    text::within(at, out)
 }
 
-fn put_state(out: &mut [u8], at: usize, halves: bool, state: State, store: &[u32]) -> usize
-    ensures { Adds (state_text halves state store.now) out.old at out.new result }
+fn put_state(text: &mut Text, halves: bool, state: State, store: &[u32])
+    ensures { Adds (state_text halves state store.now) text.old text.new }
 {
     let plans = state.plans;
-    let end = put_kind(out, at, halves, FLIGHT, plans[0], store);
-    let end = put_kind(out, end, halves, FENCE, plans[1], store);
-    let end = put_kind(out, end, halves, RALLY, plans[2], store);
+    put_kind(text, halves, FLIGHT, plans[0], store);
+    put_kind(text, halves, FENCE, plans[1], store);
+    put_kind(text, halves, RALLY, plans[2], store);
     let counts = state.counts;
-    let end = put_current(out, end, state.current, state.begun, counts);
-    put_home(out, end, state.home)
+    put_current(text, state.current, state.begun, counts);
+    put_home(text, state.home);
 }
 
 // Whether every number of a state is in its range, whatever the store holds.
@@ -59,14 +53,14 @@ fn in_range(state: State) -> bool
     ranges::ranged(&state)
 }
 
-// The whole dump; outcome 15 alone where a number of the state is out of its range. With the lowest bit of the options set no halves are told.
-pub fn put_dump(out: &mut [u8], at: usize, options: u8, state: State, store: &[u32]) -> usize
-    ensures { Adds (dump_text options state store.now) out.old at out.new result }
+// The whole dump; the refusal alone where a number of the state is out of its range. With the lowest bit of the options set no halves are told.
+pub fn put_dump(text: &mut Text, options: u8, state: State, store: &[u32])
+    ensures { Adds (dump_text options state store.now) text.old text.new }
 {
-    let ranged = in_range(state);
-    let end = rows::put_row(out, at, b'D', &[OUT_OF_RANGE as u64 * (!ranged) as u64]);
-    if !ranged {
-        return end;
+    if !in_range(state) {
+        rows::put_row(text, b'D', &[Refusal::OutOfRange.code() as u64]);
+        return;
     }
-    put_state(out, end, options % 2 == 0, state, store)
+    rows::put_row(text, b'D', &[0]);
+    put_state(text, options % 2 == 0, state, store);
 }

@@ -1,77 +1,50 @@
 // The lines, one case each.
 use crate::test_payloads::LONGEST;
 
-// The letters that lines begin with: a message read and written, lengths that agree, a whole number.
-pub const MESSAGE: u8 = b'm';
-
-pub const LENGTHS: u8 = b'l';
-
-pub const WHOLE: u8 = b'n';
-
-// A line's letter, and how many numbers it has; a message's id or a float's pattern; the payload as a part of the payloads, or the number meant; and how
-// many bytes are lent for writing.
+// What a line shows: a message, read from a part of the payloads and written into a buffer of so many bytes; for how many lengths a message agrees, with how
+// long it is in full; or a float's pattern and the whole number that is meant by it.
 #[derive(Clone, Copy)]
-pub struct Case {
-    pub letter: u8,
-    pub numbers: usize,
-    pub id: u32,
-    pub from: usize,
-    pub len: usize,
-    pub meant: i32,
-    pub room: usize,
+pub enum Case {
+    Message {
+        id: u32,
+        from: usize,
+        len: usize,
+        room: usize,
+    },
+    Lengths { id: u32, full: usize },
+    Whole { bits: u32, meant: i32 },
 }
 
-// A message is read, and written into a buffer of so many bytes: so many numbers are shown of it.
-fn message(id: u32, from: usize, len: usize, room: usize, numbers: usize) -> Case {
-    Case {
-        letter: MESSAGE,
-        numbers,
+fn message(id: u32, from: usize, len: usize, room: usize) -> Case {
+    Case::Message {
         id,
         from,
         len,
-        meant: 0,
         room,
     }
 }
 
-// A float's pattern, and the whole number that is meant by it.
-fn whole(id: u32, meant: i32) -> Case {
-    Case {
-        letter: WHOLE,
-        numbers: 2,
-        id,
-        from: 0,
-        len: 0,
-        meant,
-        room: 0,
-    }
+fn whole(bits: u32, meant: i32) -> Case {
+    Case::Whole { bits, meant }
 }
 
 // Four lines of a message, for which a buffer is one byte short or just long enough: every length; then no bytes at all, and the two buffers, of which the
 // short one stays as it is.
-fn in_lengths(i: usize, id: u32, short: usize, full: usize, numbers: usize) -> Case {
+fn in_lengths(i: usize, id: u32, short: usize, full: usize) -> Case {
     match i {
-        0 => Case {
-            letter: LENGTHS,
-            numbers: 2,
-            id,
-            from: 0,
-            len: full,
-            meant: 0,
-            room: 0,
-        },
-        1 => message(id, 0, 0, 60, numbers),
-        2 => message(id, 0, LONGEST, short, numbers),
-        _ => message(id, 0, LONGEST, full, numbers),
+        0 => Case::Lengths { id, full },
+        1 => message(id, 0, 0, 60),
+        2 => message(id, 0, LONGEST, short),
+        _ => message(id, 0, LONGEST, full),
     }
 }
 
 fn length_case(i: usize) -> Case {
     match i / 4 {
-        0 => in_lengths(i % 4, wire::COUNT_ID, 8, 9, 7),
-        1 => in_lengths(i % 4, wire::ACK_ID, 7, 8, 7),
-        2 => in_lengths(i % 4, wire::REQUEST_INT_ID, 4, 5, 6),
-        _ => in_lengths(i % 4, wire::ITEM_INT_ID, 37, 38, 17),
+        0 => in_lengths(i % 4, wire::COUNT_ID, 8, 9),
+        1 => in_lengths(i % 4, wire::ACK_ID, 7, 8),
+        2 => in_lengths(i % 4, wire::REQUEST_INT_ID, 4, 5),
+        _ => in_lengths(i % 4, wire::ITEM_INT_ID, 37, 38),
     }
 }
 
@@ -82,17 +55,17 @@ pub const COUNT: usize = 39;
 // of either sign; the infinities.
 pub fn case_of(i: usize) -> Case {
     match i {
-        16 => message(wire::PARTIAL_LIST_ID, 300, 7, 0, 7),
-        17 => message(wire::SET_CURRENT_ID, 307, 4, 0, 5),
-        18 => message(wire::REQUEST_LIST_ID, 311, 3, 0, 5),
-        19 => message(wire::CLEAR_ALL_ID, 311, 3, 0, 5),
-        20 => message(wire::COUNT_ID, 314, 9, 60, 7),
-        21 => message(wire::ACK_ID, 323, 8, 60, 7),
-        22 => message(wire::REQUEST_INT_ID, 331, 5, 60, 6),
-        23 => message(wire::ITEM_INT_ID, 336, 38, 60, 17),
-        24 => message(wire::ITEM_INT_ID, 374, 38, 60, 17),
-        25 => message(wire::CURRENT_ID, 0, 0, 60, 2),
-        26 => message(wire::STATUSTEXT_ID, 0, 0, 60, 2),
+        16 => message(wire::PARTIAL_LIST_ID, 300, 7, 0),
+        17 => message(wire::SET_CURRENT_ID, 307, 4, 0),
+        18 => message(wire::REQUEST_LIST_ID, 311, 3, 0),
+        19 => message(wire::CLEAR_ALL_ID, 311, 3, 0),
+        20 => message(wire::COUNT_ID, 314, 9, 60),
+        21 => message(wire::ACK_ID, 323, 8, 60),
+        22 => message(wire::REQUEST_INT_ID, 331, 5, 60),
+        23 => message(wire::ITEM_INT_ID, 336, 38, 60),
+        24 => message(wire::ITEM_INT_ID, 374, 38, 60),
+        25 => message(wire::CURRENT_ID, 0, 0, 60),
+        26 => message(wire::STATUSTEXT_ID, 0, 0, 60),
         27 => whole(0x4aff_fffe, 8388607),
         28 => whole(0x4aff_ffff, 8388607),
         29 => whole(0x4eff_ffff, 2147483520),

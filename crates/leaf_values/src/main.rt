@@ -10,16 +10,16 @@ mod output;
 mod test_payloads;
 mod wholes;
 
+use text::Text;
+
 const OUTPUT: usize = 8192;
 
 fn main(rt: HostRuntime) {
     let mut stdout = rt.stdout();
-    let mut out = [0u8; OUTPUT];
-    let mut at = 0;
-    let mut i = 0;
-    while i < cases::COUNT {
-        at = output::put_line(&mut out, at, cases::case_of(i));
-        i += 1;
+    let mut output = [0u8; OUTPUT];
+    let mut text = Text::new(&mut output);
+    for i in 0..cases::COUNT {
+        output::put_line(&mut text, cases::case_of(i));
     }
-    streams::send(&mut stdout, &out, at, usize::MAX);
+    streams::send(&mut stdout, &mut text, usize::MAX);
 }

@@ -1,5 +1,11 @@
 // A message read, and written again; of a message that is only written, MAVLink's own test values.
+use text::Text;
 use wire::OWN_BYTES;
+
+// What a buffer holds before it is written to, and the longest one.
+pub const BEFORE: u8 = 0xAA;
+
+pub const BUFFER: usize = 60;
 
 fn current() -> wire::Current {
     wire::Current {
@@ -23,20 +29,28 @@ fn statustext() -> wire::Statustext {
     }
 }
 
-// The most numbers of a message: its id, how many bytes are written of it, and its fields as read, in wire order; params and z as bit patterns.
-pub const NUMBERS: usize = 17;
-
-// Those of a message with five fields or fewer.
-pub fn few(id: u32, n: u64, a: u64, b: u64, c: u64, d: u64, e: u64) -> [u64; NUMBERS] {
-    [id as u64, n, a, b, c, d, e, 0, 0, 0, 0, 0, 0, 0, 0, 0, 0]
+// The message's own bytes in a payload; zeros for one that is only written.
+pub fn own_bytes(id: u32, payload: &[u8]) -> [u8; OWN_BYTES] {
+    wire::receive(id, payload).map_or([0; OWN_BYTES], |got| got.own)
 }
 
-fn item_shown(own: &[u8; OWN_BYTES], n: u64) -> [u64; NUMBERS] {
-    let m = wire::read_item_int(own);
+// The message of these own bytes, written: how many bytes that takes, or 0 for one that is only read.
+pub fn written(id: u32, own: &[u8; OWN_BYTES], to: &mut [u8]) -> usize {
+    match id {
+        wire::CURRENT_ID => reply::write_current(current(), to),
+        wire::STATUSTEXT_ID => reply::write_statustext(statustext(), to),
+        wire::COUNT_ID => reply::write_count(wire::read_count(own), to),
+        wire::ACK_ID => reply::write_ack(wire::read_ack(own), to),
+        wire::REQUEST_INT_ID => reply::write_request_int(wire::read_request_int(own), to),
+        wire::ITEM_INT_ID => reply::write_item_int(wire::read_item_int(own), to),
+        _ => 0,
+    }
+}
+
+// An item's params and z are shown as bit patterns.
+fn put_item(text: &mut Text, m: wire::ItemInt) {
     let i = m.item;
-    [
-        73,
-        n,
+    let list = [
         i.bits1 as u64,
         i.bits2 as u64,
         i.bits3 as u64,
@@ -52,132 +66,69 @@ fn item_shown(own: &[u8; OWN_BYTES], n: u64) -> [u64; NUMBERS] {
         m.current as u64,
         i.autocontinue as u64,
         i.kind as u64,
-    ]
+    ];
+    text::put_numbers(text, &list);
 }
 
-// A message that is only read.
-fn read_only(id: u32, own: &[u8; OWN_BYTES]) -> [u64; NUMBERS] {
+// The station and the kind that many messages end with.
+fn put_ending(text: &mut Text, system: u8, component: u8, kind: u8) {
+    text::put_numbers(text, &[system as u64, component as u64, kind as u64]);
+}
+
+// A message's fields as read, in wire order; none of one that is only written.
+fn put_fields(text: &mut Text, id: u32, own: &[u8; OWN_BYTES]) {
     match id {
         wire::PARTIAL_LIST_ID => {
             let m = wire::read_partial_list(own);
-            few(
-                id,
-                0,
-                m.start as u64,
-                m.end as u64,
-                m.system as u64,
-                m.component as u64,
-                m.kind as u64,
-            )
+            text::put_numbers(text, &[m.start, m.end]);
+            put_ending(text, m.system, m.component, m.kind);
         }
         wire::SET_CURRENT_ID => {
             let m = wire::read_set_current(own);
-            few(
-                id,
-                0,
-                m.seq as u64,
-                m.system as u64,
-                m.component as u64,
-                0,
-                0,
-            )
+            text::put_numbers(text, &[m.seq as u64, m.system as u64, m.component as u64]);
         }
         wire::REQUEST_LIST_ID => {
             let m = wire::read_request_list(own);
-            few(
-                id,
-                0,
-                m.system as u64,
-                m.component as u64,
-                m.kind as u64,
-                0,
-                0,
-            )
+            put_ending(text, m.system, m.component, m.kind);
         }
-        _ => {
+        wire::CLEAR_ALL_ID => {
             let m = wire::read_clear_all(own);
-            few(
-                id,
-                0,
-                m.system as u64,
-                m.component as u64,
-                m.kind as u64,
-                0,
-                0,
-            )
+            put_ending(text, m.system, m.component, m.kind);
         }
-    }
-}
-
-// A message of these own bytes.
-fn own_shown(id: u32, own: &[u8; OWN_BYTES], to: &mut [u8]) -> [u64; NUMBERS] {
-    match id {
-        wire::CURRENT_ID => few(
-            id,
-            reply::write_current(current(), to) as u64,
-            0,
-            0,
-            0,
-            0,
-            0,
-        ),
-        wire::STATUSTEXT_ID => few(
-            id,
-            reply::write_statustext(statustext(), to) as u64,
-            0,
-            0,
-            0,
-            0,
-            0,
-        ),
         wire::COUNT_ID => {
             let m = wire::read_count(own);
-            let n = reply::write_count(m, to);
-            few(
-                id,
-                n as u64,
-                m.count as u64,
-                m.system as u64,
-                m.component as u64,
-                m.kind as u64,
-                m.number as u64,
-            )
+            text::put_numbers(text, &[m.count]);
+            put_ending(text, m.system, m.component, m.kind);
+            text::put_numbers(text, &[m.number as u64]);
         }
         wire::ACK_ID => {
             let m = wire::read_ack(own);
-            let n = reply::write_ack(m, to);
-            few(
-                id,
-                n as u64,
-                m.system as u64,
-                m.component as u64,
-                m.result as u64,
-                m.kind as u64,
-                m.number as u64,
-            )
+            let list = [m.result as u64, m.kind as u64, m.number as u64];
+            text::put_numbers(text, &[m.system as u64, m.component as u64]);
+            text::put_numbers(text, &list);
         }
         wire::REQUEST_INT_ID => {
             let m = wire::read_request_int(own);
-            let n = reply::write_request_int(m, to);
-            few(
-                id,
-                n as u64,
-                m.seq as u64,
-                m.system as u64,
-                m.component as u64,
-                m.kind as u64,
-                0,
-            )
+            text::put_numbers(text, &[m.seq]);
+            put_ending(text, m.system, m.component, m.kind);
         }
-        wire::ITEM_INT_ID => {
-            let n = reply::write_item_int(wire::read_item_int(own), to);
-            item_shown(own, n as u64)
-        }
-        _ => read_only(id, own),
+        wire::ITEM_INT_ID => put_item(text, wire::read_item_int(own)),
+        _ => {}
     }
 }
 
-pub fn shown(id: u32, p: &[u8], to: &mut [u8]) -> [u64; NUMBERS] {
-    let own = wire::receive(id, p).map_or([0u8; OWN_BYTES], |got| got.own);
-    own_shown(id, &own, to)
+// A message read, and written into the first bytes of a buffer, which are told behind a space, where there are any.
+pub fn put_message(text: &mut Text, id: u32, payload: &[u8], room: usize) {
+    let mut buffer = [BEFORE; BUFFER];
+    let end = text::within(room, &buffer);
+    let bytes = &mut buffer[..end];
+    let own = own_bytes(id, payload);
+    let n = written(id, &own, bytes);
+    rows::put_begun(text, b'm', &[id as u64, n as u64]);
+    put_fields(text, id, &own);
+    if 0 < end {
+        text.put_byte(b' ');
+        text::put_hex(text, bytes);
+    }
+    text.put_byte(b'\n');
 }

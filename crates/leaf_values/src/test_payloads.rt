@@ -18,12 +18,9 @@ const TEST_VALUES: [u8; TESTS] = *b"\x53\x43\xbb\x43\x11\x54\x97\
 
 pub fn payloads() -> [u8; ALL] {
     let mut p = [0u8; ALL];
-    let mut i = 0;
-    while i < LONGEST {
-        p[i] = (i % 255 + 1) as u8;
-        i += 1;
+    for (i, byte) in p[..LONGEST].iter_mut().enumerate() {
+        *byte = (i % 255 + 1) as u8;
     }
-    let tests = TEST_VALUES;
-    writing::write(&mut p, LONGEST, &tests);
+    p[LONGEST..].copy_from_slice(&TEST_VALUES);
     p
 }

@@ -1,16 +1,17 @@
 // Whole numbers beyond the range of every rule, and patterns without a value.
-use values::Whole;
+use values::NotWhole;
 
 // 1 where a pattern stands for the number meant, 2 for another whole number, 3 for no value, 0 for what is not whole.
 pub fn verdict(bits: u32, meant: i32) -> u64 {
     match values::whole_of(values::float_of(bits)) {
-        Whole::Integer(n) => {
+        Ok(n) => {
             if n == meant {
-                return 1;
+                1
+            } else {
+                2
             }
-            2
         }
-        Whole::NoValue => 3,
-        Whole::NotWhole => 0,
+        Err(NotWhole::NoValue) => 3,
+        Err(NotWhole::Fraction) => 0,
     }
 }

@@ -1,11 +1,12 @@
 -- The lines of a call script. "Every line ends in LF. Fields are parted by one space. Numbers are decimal without leading zeros, except
 -- where hex is named. Hex is upper case, two digits a byte, no spaces."
-use Rattle.std.specs.Prelude.{ℕ, Bool, true, false, ◌&&◌, cond, List, [], ◌∷◌, ◌++◌, eqb, take, drop}
+use Rattle.std.specs.Prelude.{ℕ, Bool, true, false, ◌&&◌, cond, List, [], ◌∷◌, ◌++◌, eqb, take, drop, Option, Result, Ok, Err}
 use Rattle.text.specs.Words.{ascii}
 use Rattle.text.specs.Digits.{hex}
 use Rattle.rows.specs.Rows.{begun, row}
-use Rattle.script.specs.declared.Next.{Next}
-use Rattle.script.specs.declared.Next.TheVariants.{Play, End, Cut, Bad}
+use Rattle.script.specs.declared.Record.{Record}
+use Rattle.script.specs.declared.kinds.Stop.{Stop}
+use Rattle.script.specs.declared.kinds.Stop.TheVariants.{Cut, Bad}
 use Rattle.command.specs.declared.Command.{Command}
 use Rattle.command_words.specs.Commands.{command_text}
 
@@ -37,8 +38,7 @@ unfoldable pub moved_line : (outcome : ℕ) → List ℕ
 moved_line outcome = row 118 (outcome ∷ [])
 
 -- "the line `? TYPE`, and the program stops. A record cut by the end of input: `? cut`."
-unfoldable pub stop_text : Next → List ℕ
-stop_text (Play r) = []
-stop_text End = []
-stop_text Cut = ascii "? cut\n"
-stop_text (Bad kind) = row 63 (kind ∷ [])
+unfoldable pub stop_text : Result (Option Record) Stop → List ℕ
+stop_text (Ok next) = []
+stop_text (Err Cut) = ascii "? cut\n"
+stop_text (Err (Bad kind)) = row 63 (kind ∷ [])

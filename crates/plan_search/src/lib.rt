@@ -8,7 +8,7 @@ ghost use Rattle.std.specs.Prelude.{◌≡◌, ◌≤◌, ◌<◌, drop};
 ghost use Rattle.rules.specs.Limits.{flight, size_of};
 ghost use Rattle.rules.specs.Messages.{item_in};
 ghost use Rattle.rules.specs.NextCommand.{command_of, meets, search_from};
-ghost use Rattle.item.specs.Patterns.{item_for, patterns};
+ghost use Rattle.item.specs.Patterns.{patterns};
 ghost use Rattle.places.specs.Forms.{words, item_at};
 ghost use Rattle.plan_search.specs.PlanItems.{flight_items};
 ghost use Rattle.plan_search.specs.Orders.{command_for};
@@ -18,7 +18,7 @@ ghost use Rattle.plan_search.specs.Meeting.{met_for, look_as, jump_as};
 use command::Command;
 pub use flight::Flight;
 use item::Item;
-use limits::{ACCEPTED, CHANGE_SPEED, DELAY, DISTANCE, FLIGHT, JUMP_COUNTS, SET_SERVO, YAW};
+use limits::{CHANGE_SPEED, DELAY, DISTANCE, FLIGHT, JUMP_COUNTS, SET_SERVO, YAW};
 
 // What a search meets first that is no jump to pass over.
 #[derive(Clone, Copy)]
@@ -32,23 +32,24 @@ pub enum Met {
 }
 
 // The answer for item n, which is no jump.
+#[tactic(auto, unfolding(rules::specs::NextCommand::command_of))]
 fn command_of(n: u16, item: Item) -> Command
-    requires item_value { item ≡ item_for (patterns item) }
-    requires servo_fits { ServoFits (patterns item) }
+    requires { ServoFits (patterns item) }
     ensures { result ≡ command_for (command_of n (patterns item)) }
 {
     match item.command {
-        DELAY => Command::Wait(n, item.param1),
-        DISTANCE => Command::Near(n, item.param1),
-        YAW => Command::Turn(n, item.param1),
-        CHANGE_SPEED => Command::Speed(n, item.param2),
-        SET_SERVO => Command::Servo(n, item::number1(item) as u16, item::number2(item) as u16),
+        DELAY => Command::Wait(n, item.param1()),
+        DISTANCE => Command::Near(n, item.param1()),
+        YAW => Command::Turn(n, item.param1()),
+        CHANGE_SPEED => Command::Speed(n, item.param2()),
+        SET_SERVO => Command::Servo(n, item.number1() as u16, item.number2() as u16),
         _ => Command::Fly(n),
     }
 }
 
 // Jump number j with a repeat and a target, after some runs; None where it is passed over. Only -1 is below 0: it is followed for ever,
 // and not counted.
+#[tactic(auto, unfolding(crate::specs::Meeting::jump_as, crate::specs::Meeting::is_counted, rules::specs::NextCommand::passed_over))]
 fn jump_look(repeat: i32, target: u16, j: u16, runs: u16) -> Option<Met>
     ensures { result ≡ jump_as repeat target j runs }
 {
@@ -63,23 +64,19 @@ fn jump_look(repeat: i32, target: u16, j: u16, runs: u16) -> Option<Met>
 
 impl Flight<'_> {
     // Item n with j jumps before it; None where it is a jump that is passed over.
+    #[tactic(auto, using(rule_laws::specs::Valid::valid_servo, rule_laws::specs::Valid::valid_jump, rule_laws::specs::Valid::target_below), unfolding(crate::specs::Meeting::look_as))]
     fn look_at(self, counts: [u16; JUMP_COUNTS], n: u16, j: u16) -> Option<Met>
         requires { n < self.len }
         ensures { result ≡ look_as self.entry.home self.entry.len counts n j (item_in (item_at words self.entry.store.now self.entry.half flight n)) }
     {
         let item = storage::fetch(self.store, FLIGHT, self.half, n);
-        if item_rules::verdict(self.home, item, FLIGHT, self.len, n, j) != ACCEPTED {
+        if item_rules::verdict(self.home, item, FLIGHT, self.len, n, j).is_err() {
             return Some(Met::Ends(Command::Stuck));
         }
-        if !item::is_jump(item) {
+        if !item.is_jump() {
             return Some(Met::Stands(n, command_of(n, item)));
         }
-        jump_look(
-            item::repeat_of(item),
-            item::number1(item) as u16,
-            j,
-            counts[j as usize],
-        )
+        jump_look(item.repeat(), item.number1() as u16, j, counts[j as usize])
     }
 
     // From item n on, with j jumps before it.

@@ -1,2 +1,3 @@
--- A law that the proofs of judging use.
-mod Room
+-- Laws that the proofs of judging use.
+pub mod Room
+pub mod Faults

@@ -1,4 +1,3 @@
 -- Laws that the proofs cite.
 mod Ways
 mod WordWays
-mod SameWays

@@ -34,10 +34,8 @@ pub fn write_words(store: &mut [u32], at: usize, payload: &[u8])
     if store.len() - at < words {
         return;
     }
-    let mut i: usize = 0;
-    while i < words {
+    for i in 0..words {
         store[at + i] = fields::u32_at(payload, i * WORD_BYTES);
-        i += 1;
     }
 }
 
@@ -45,15 +43,5 @@ pub fn write_words(store: &mut [u32], at: usize, payload: &[u8])
 pub fn same_words(a: &[u32], b: &[u32]) -> bool
     ensures { (result ≡ true → a.now ≡ b.now) × (a.now ≡ b.now → result ≡ true) }
 {
-    if a.len() != b.len() {
-        return false;
-    }
-    let mut i: usize = 0;
-    while i < a.len() {
-        if a[i] != b[i] {
-            return false;
-        }
-        i += 1;
-    }
-    true
+    a == b
 }

@@ -1,22 +1,11 @@
--- `command_words::put_command` meets its contract: what is told is the command's text.
-use Rattle.command_words.proofs.Ways.{answer_put}
+-- `command_words::put_command` meets its contract, of a servo's numbers; the check finds the other commands.
+use mathlib.Core.List.{◌++◌}
+use Rattle.adding.specs.Laws.{adds_as}
+use Rattle.text.specs.Words.{ascii}
+use Rattle.command.specs.declared.Command.{Command}
+use Rattle.command_words.specs.Commands.{command_text}
 use Rattle.command_words.proofs.put_command.Goals as goal
 
-pub answer_of-t-requires : goal.answer_of-t-requires
-answer_of-t-requires c = tt
-
-pub words-words-requires : goal.words-words-requires
-words-words-requires c = tt
-
-pub part-requires : goal.part-requires
-part-requires c = tt
-
-pub first-requires : goal.first-requires
-first-requires c = tt
-
-pub put_line-requires : goal.put_line-requires
-put_line-requires c = tt
-
-pub returns : goal.returns
-returns c = answer_put _ c.answer_of-t.result _ _ _ _ _ _ _ _ _
-    c.answer_of-t.ensures c.words-words.ensures c.part.ensures c.first.ensures c.part-2.ensures c.part-3.ensures c.put_line.ensures
+pub returns-in-Servo : goal.returns-in-Servo
+unfolding command_text
+returns-in-Servo c = adds_as (λ (k : Command). command_text k ++ ascii "\n") _ _ c.in-Servo.is c.put_numbers-in-Servo.ensures

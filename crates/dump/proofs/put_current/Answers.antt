@@ -1,9 +1,9 @@
 -- `dump::put_current` meets its contract: the parts of the line in their order.
-use Rattle.dump.proofs.Ways.{current_line_lem}
+use Rattle.adding.specs.Laws.{adds_both}
+use Rattle.dump.specs.Dumps.{current_line}
+use Rattle.dump.proofs.Ways.{flag_byte}
 use Rattle.dump.proofs.put_current.Goals as goal
 
-pub overflow_cast-list-2 : goal.overflow_cast-list-2
-overflow_cast-list-2 c = tt
-
 pub returns : goal.returns
-returns c = current_line_lem _ _ _ _ _ _ _ _ _ _ _ c.put_begun-end.ensures c.put_shorts-end.ensures c.put_byte.ensures
+unfolding current_line
+returns c = rw (← flag_byte c.args.begun) (adds_both c.put_begun.ensures (adds_both c.put_numbers.ensures c.put_byte.ensures))

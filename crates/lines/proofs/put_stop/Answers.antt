@@ -1,22 +1,10 @@
--- `lines::put_stop` meets its contract, for each case.
+-- `lines::put_stop` meets its contract, of a record that is cut; the check finds the rest.
+use Rattle.std.proofs.Common.{◌≡◌, Err, rules}
 use Rattle.adding.specs.Laws.{adds_as}
-use Rattle.lines.proofs.Ways.{no_stop}
-use mathlib.Core.Path.{refl}
+use Rattle.script.specs.declared.kinds.Stop.TheVariants.{Cut}
 use Rattle.lines.specs.Lines.{stop_text}
 use Rattle.lines.proofs.put_stop.Goals as goal
 
-pub returns-in-Cut : goal.returns-in-Cut
+pub returns-in-Err-Cut : goal.returns-in-Err-Cut
 unfolding stop_text
-returns-in-Cut c = adds_as stop_text _ _ c.in-Cut.is c.put.ensures
-
-pub returns-in-Bad : goal.returns-in-Bad
-unfolding stop_text
-returns-in-Bad c = adds_as stop_text _ _ c.in-Bad.is c.put_row.ensures
-
-pub returns-in-End : goal.returns-in-End
-unfolding stop_text
-returns-in-End c = no_stop _ _ _ _ _ c.in-End.is refl c.within.ensures.value
-
-pub returns-in-Play : goal.returns-in-Play
-unfolding stop_text
-returns-in-Play c = no_stop _ _ _ _ _ c.in-Play.is refl c.within-in-Play.ensures.value
+returns-in-Err-Cut c = let cut : c.args.next ≡ Err Cut = search rules in adds_as stop_text _ _ cut c.put.ensures

@@ -1,5 +1,4 @@
 -- `writing::write_words` meets its contract. The loop's invariant: the first i words are written.
-use Prim.Native.Nat.{◌-◌}
 use mathlib.Core.Path.{◌∙◌}
 use native.Mathlib.Omega.{arith}
 use lib.ListN.{length-set}
@@ -21,9 +20,8 @@ loop-i-init c = search (none_written, rules)
 
 pub loop-i-preserved : goal.loop-i-preserved
 loop-i-preserved c = let a = c.args in (
-  omega arith,
-  length-set c.loop-i.store _ _ ∙ c.loop-i.invariant.1,
-  word_written a.store.now a.at a.payload.now c.loop-i.store c.loop-i.i c.u32_at.result (omega arith) c.loop-i.invariant.2 c.u32_at.ensures,
+  length-set c.loop-i.store _ _ ∙ c.loop-i.invariant.0,
+  word_written a.store.now a.at a.payload.now c.loop-i.store c.loop-i.i c.u32_at.result (omega arith) c.loop-i.invariant.1 c.u32_at.ensures,
 )
 
 pub returns : goal.returns

@@ -1,11 +1,7 @@
-use Prim.Native.Nat.{◌-◌, ◌≤◌}
 use mathlib.Core.Path.{◌≡◌}
 use lib.ListN.{length}
 use Rattle.writing.specs.Written.{written, words_in}
 use Rattle.writing.proofs.write_words.Given as goal
 
 abbrev pub invariant-loop-i : goal.invariant-loop-i
-invariant-loop-i l = (l.i ≤ l.words) × (length l.store ≡ length l.initial.store) × (l.store ≡ written l.initial.store l.at (words_in l.i l.payload))
-
-abbrev pub decreases-loop-i : goal.decreases-loop-i
-decreases-loop-i l = l.words - l.i
+invariant-loop-i l = (length l.store ≡ length l.initial.store) × (l.store ≡ written l.initial.store l.at (words_in l.i l.payload))

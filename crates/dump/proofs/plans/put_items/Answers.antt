@@ -1,17 +1,19 @@
--- `dump::plans::put_items` meets its contract. The loop's invariant: the lines of the items before number n are added.
-use Prim.Native.Nat.{◌-◌}
-use borrow.Author.Rules.{rules}
-use Rattle.dump.proofs.PlanWays.{no_items, items_more, all_items}
+-- `dump::plans::put_items` meets its contract, item by item.
+use Rattle.std.proofs.Common.{◌≡◌, ◌-◌, arith}
+use Rattle.dump.proofs.PlanWays.{no_items, items_more}
 use Rattle.dump.proofs.plans.put_items.Goals as goal
 
 pub loop-n-init : goal.loop-n-init
-loop-n-init c = (search rules, (search rules, search (no_items, rules)))
+loop-n-init c = record { within = omega arith; lines = no_items _ _ _ _ _ _ _ (omega arith) }
 
 pub loop-n-preserved : goal.loop-n-preserved
-loop-n-preserved c = (search rules, (search rules, search (items_more, rules)))
-
-pub shape_of-out : goal.shape_of-out
-shape_of-out c = c.loop-n.invariant.1.1.room
+loop-n-preserved c =
+    record {
+      within = omega arith;
+      lines =
+          items_more _ _ _ _ _ _ _ _ _ _ _ _
+          c.loop-n.auto.n c.place_at-place.ensures c.part.ensures c.stored_item-bytes.ensures c.loop-n.invariant.lines c.put_item.ensures;
+    }
 
 pub returns : goal.returns
-returns c = search (all_items, rules)
+returns c = let all : c.args.to - c.args.from ≡ c.loop-n.n - c.args.from = omega arith in rw all c.loop-n.invariant.lines

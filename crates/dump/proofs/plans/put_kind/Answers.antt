@@ -1,7 +1,11 @@
 -- `dump::plans::put_kind` meets its contract: the plan, then the items of both halves.
-use Rattle.dump.proofs.PlanWays.{kind_text_lem}
+use Rattle.std.proofs.Common.{◌≡◌, ◌-◌, arith}
+use Rattle.adding.specs.Laws.{adds_both}
+use Rattle.dump.specs.Plans.{kind_text}
 use Rattle.dump.proofs.plans.put_kind.Goals as goal
 
 pub returns : goal.returns
-returns c = let a = c.args in
-    kind_text_lem _ _ _ _ _ _ _ _ _ _ a.plan _ c.put_plan-end.ensures c.put_items-end.ensures c.put_brought.ensures
+unfolding kind_text
+returns c =
+    let all : c.args.plan.len - 0 ≡ c.args.plan.len = omega arith in
+    adds_both c.put_plan.ensures (adds_both (rw all at c.put_items.ensures) c.put_brought.ensures)

@@ -7,7 +7,6 @@ use mathlib.Core.Path.{◌≡◌, refl, sym, ap, ◌∙◌}
 use mathlib.Core.List.{List}
 use mathlib.Core.Bool.{Bool}
 use lib.ListN.{drop, drop_of_length-le}
-use borrow.Author.Rules.{rules}
 use Rattle.rules.specs.Limits.{flight}
 use Rattle.rules.specs.Payload.{Bytes}
 use Rattle.rules.specs.Messages.{item_in}
@@ -21,12 +20,6 @@ use Rattle.plan_search.specs.PlanItems.{items_from}
 use Rattle.plan_search.specs.Meeting.{met_for, look_as, meets_one, over_room}
 use Rattle.plan_search.proofs.flight.Flight.scan.Invariants.{met_from}
 use Rattle.plan_search.proofs.flight.Flight.scan.Goals as goal
-
-begins : (home : Bool) (store : Store) (half : Bool) (len : ℕ) (counts : List ℕ) (from before : ℕ) → before < 65536
-    → record { same : met_from home store half len counts from before ≡ met_from home store half len counts from (before + (from - from)); few : before + (from - from) < 65536 }
-begins home store half len counts from before fits =
-    let none : before ≡ before + (from - from) = omega arith in
-    record { same = ap (met_from home store half len counts from) none; few = omega arith }
 
 module _ (home : Bool) (store : Store) (half : Bool) (len : ℕ) (counts : List ℕ) (n j : ℕ) (all : Met) (is : all ≡ met_from home store half len counts n j) where
   module _ (below : n < len) (look : Option Met) (looked : look ≡ look_as home len counts n j (item_in (item_at words store half flight n))) where
@@ -65,9 +58,6 @@ module _ (home : Bool) (store : Store) (half : Bool) (len : ℕ) (counts : List 
   at_end past =
       let items = items_in words store half flight len in
       sym (is ∙ ap (λ (l : List Bytes). met_for (meets home len counts l n j)) (drop_of_length-le items {i = n} (omega (arith, length_items words store half flight len))))
-
-pub loop-n-init : goal.loop-n-init
-loop-n-init c = search (begins, rules)
 
 pub returns-in-Some : goal.returns-in-Some
 returns-in-Some c = met_here _ _ _ _ _ _ _ _ c.loop-n.invariant.same c.loop-n-test.true _ c.look_at.ensures _ c.in-Some.is
