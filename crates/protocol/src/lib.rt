@@ -101,6 +101,7 @@ fn turn(
 }
 
 // A message from a station, with the plan of its kind, where there is such a kind, beside the plans of all. Item 0 of the flight plan may be home.
+#[tactic(auto, using(crate::proofs::Requests::says_nothing), unfolding(record_steps::specs::Doing::message_done, record_steps::specs::Doing::known_done, record_steps::specs::Doing::plan_done, rules::specs::Messages::decode, rules::specs::Messages::message_of))]
 pub fn answer(
     home: bool,
     plan: Plan,
