@@ -1,11 +1,11 @@
 -- A number's decimal digits, made from the last to the first.
-use Rattle.std.specs.Prelude.{ℕ, zero, suc, ◌+◌, ◌-◌, ◌/◌, ◌%◌, ◌^◌, ◌<◌, ◌≤◌, ◌≡◌, List, [], ◌∷◌, ◌++◌, length, set, take, drop}
-use Rattle.std.proofs.Common.{ap, ◌∙◌, append_assoc, div-lt_iff_lt-mul, add-one, arith, length-set, length-drop, drop-cons, drop-set-lt, get_or-set_same, take_all, lt-ltb, le-ltb}
+use Rattle.std.specs.Prelude.{ℕ, zero, suc, ◌+◌, ◌-◌, ◌*◌, ◌/◌, ◌%◌, ◌^◌, ◌<◌, ◌≤◌, ◌≡◌, List, [], ◌∷◌, ◌++◌, length, set, take, drop, get_or}
+use Rattle.std.proofs.Common.{ap, ◌∙◌, append_assoc, div-lt_iff_lt-mul, add-one, arith, length-set, length-drop, drop-cons, drop-set-lt, get_or-set_same, take_all, take-suc-set, lt-ltb, le-ltb}
 use Rattle.std.proofs.Math.Nat.{pow-succ'}
 use Rattle.std.proofs.Math.Decide.{dec_le}
-use Rattle.adding.specs.Added.{Filled, Adds}
-use Rattle.adding.specs.Laws.{adds_both}
-use Rattle.text.specs.Digits.{digit, decimal_in, decimal, two_digits}
+use Rattle.adding.specs.Added.{Filled, Adds, each}
+use Rattle.adding.specs.Laws.{adds_nothing, each_front, each_both}
+use Rattle.text.specs.Digits.{digit, decimal_in, decimal, two_digits, hex}
 
 -- how many digits a number may have does not matter, where there are enough
 enough : (k j n : ℕ) → n < k → n < j → decimal_in k n ≡ decimal_in j n
@@ -66,12 +66,29 @@ module _ (n left first d size : ℕ) (ds : List ℕ) (h : first < size) (long : 
       let whole : drop first (set ds first d) ≡ decimal n = rw (put_before ds first d (omega arith), so_far, one_digit left one, is) in
       rw (all ∙ whole) at adds
 
--- two digits, as they were made
-pub adds_two
-    : (b high low : ℕ) {before between after : Filled}
-    → high ≡ digit (b / 16)
-    → low ≡ digit (b % 16)
-    → Adds (high ∷ []) before between
-    → Adds (low ∷ []) between after
-    → Adds (two_digits b) before after
-adds_two b high low h l first second = rw (← h, ← l) (adds_both first second)
+-- a byte's two digits, behind those of the bytes before it
+pub hex_made
+    : (bs ds : List ℕ) (i high low : ℕ)
+    → i < length bs
+    → 2 * i + 2 ≤ length ds
+    → high ≡ digit (get_or bs i 0 / 16)
+    → low ≡ digit (get_or bs i 0 % 16)
+    → take (2 * i) ds ≡ hex (take i bs)
+    → take (2 * (i + 1)) (set (set ds (2 * i) high) (2 * i + 1) low) ≡ hex (take (i + 1) bs)
+hex_made bs ds i high low h room is_high is_low so_far =
+    let end : 2 * (i + 1) ≡ suc (suc (2 * i)) = omega arith in
+    let next : 2 * i + 1 ≡ suc (2 * i) = omega arith in
+    rw (end, next, each_front two_digits bs i 0 h)
+    (take-suc-set (set ds (2 * i) high) (suc (2 * i)) low (omega (arith, length-set ds (2 * i) high))
+    ∙ ap (λ (l : List ℕ). l ++ (low ∷ [])) (take-suc-set ds (2 * i) high (omega arith))
+    ∙ append_assoc (take (2 * i) ds) (high ∷ []) (low ∷ [])
+    ∙ rw (so_far, is_high, is_low))
+
+-- the digits of a part, and of what is left behind it
+pub hex_both : (bs part left : List ℕ) → bs ≡ part ++ left → hex bs ≡ hex part ++ hex left
+hex_both bs part left is = rw is (each_both two_digits part left)
+
+pub hex_none : (bs : List ℕ) (filled : Filled) → length bs ≡ 0 → Adds (hex bs) filled filled
+unfolding each
+hex_none [] filled none = adds_nothing filled
+hex_none (b ∷ bs) filled none = absurd (omega arith)

@@ -8,6 +8,9 @@ use adding::Text;
 // No number of 64 bits has more decimal digits.
 const MOST_DIGITS: usize = 20;
 
+// How many bytes' digits are made at once.
+const FEW: usize = 32;
+
 // A whole number of at most 64 bits.
 pub trait Number: Copy {
     ghost number: { Self → ℕ };
@@ -71,18 +74,28 @@ pub fn put_numbers<N: Number>(text: &mut Text, list: &[N])
     }
 }
 
-fn put_two_digits(text: &mut Text, byte: u8)
-    ensures { Adds (two_digits byte) text.old text.new }
+// The digits of bytes, of which there are few. They are made in an array, so that there is one test of room for all of them: `put_byte` for each takes
+// several times as long.
+fn put_few(text: &mut Text, bytes: &[u8])
+    requires { length bytes.now ≤ 32 }
+    ensures { Adds (hex bytes.now) text.old text.new }
 {
-    text.put_byte(digit(byte / 16));
-    text.put_byte(digit(byte % 16));
+    let mut digits = [0u8; 2 * FEW];
+    for (i, byte) in bytes.iter().enumerate() {
+        digits[2 * i] = digit(*byte / 16);
+        digits[2 * i + 1] = digit(*byte % 16);
+    }
+    text.put(&digits[..2 * bytes.len()]);
 }
 
 // Bytes, two hexadecimal digits each.
 pub fn put_hex(text: &mut Text, bytes: &[u8])
     ensures { Adds (hex bytes.now) text.old text.new }
 {
-    for byte in bytes {
-        put_two_digits(text, *byte);
+    let mut left = bytes;
+    while !left.is_empty() {
+        let (few, rest) = left.split_at(left.len().min(FEW));
+        put_few(text, few);
+        left = rest;
     }
 }
