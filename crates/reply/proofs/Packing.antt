@@ -1,8 +1,6 @@
 -- What writing asks of a message's bytes, and what it gives of the message.
-use Prim.Native.Nat.{ℕ, ◌<◌}
+use Prim.Native.Nat.{ℕ}
 use mathlib.Core.Path.{◌≡◌, refl, ap, ap₂, subst, ◌∙◌}
-use native.Mathlib.Omega.{arith}
-use lib.Dec.{T, ltb, ltb→lt}
 use lib.ListN.{length, take, drop}
 use lib.Seq.{take_at}
 use Rattle.rules.specs.Payload.{Bytes, trim}
@@ -15,11 +13,8 @@ use Rattle.trimming.specs.Written.{Written}
 use Rattle.reply.specs.Written.{Wrote}
 
 -- what writing asks of a message's bytes
-pub ready : (m : Message) (bs : Bytes) → T (ltb 0 (layout_of (id_of m)).full) → BytesOf m bs → (length bs ≡ (layout_of (id_of m)).full) × (0 < length bs)
-ready m bs some b =
-    let full : length bs ≡ (layout_of (id_of m)).full = ap length b.all ∙ length_encode m in
-    let low : 0 < (layout_of (id_of m)).full = ltb→lt 0 (layout_of (id_of m)).full some in
-    (full, omega arith)
+pub ready : (m : Message) (bs : Bytes) (id : ℕ) → id_of m ≡ id → BytesOf m bs → length bs ≡ (layout_of id).full
+ready m bs id is b = ap length b.all ∙ length_encode m ∙ ap (λ (k : ℕ). (layout_of k).full) is
 
 -- bytes that are a message's are written as the message, and read back as it
 pub wrote_as : (m : Message) (bs before after : Bytes) (n : ℕ) → BytesOf m bs → Written bs before after n → Wrote m before after n

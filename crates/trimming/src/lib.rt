@@ -7,7 +7,7 @@ ghost use Rattle.rules.specs.Layouts.{layout_of};
 ghost use Rattle.trimming.specs.Written.{Written};
 
 use copying::copy_front;
-use fields::word_at;
+use fields::u64_at;
 use message_table::full_of;
 
 // How many zeros end eight bytes: as many as there are whole bytes of leading zeros in their number.
@@ -15,7 +15,7 @@ fn zeros_ending(bytes: &[u8], at: usize) -> usize
     requires { at + 8 ≤ length bytes.now }
     ensures { result + significant (take 8 (drop at bytes.now)) ≡ 8 }
 {
-    (u64::leading_zeros(word_at(bytes, at)) / 8) as usize
+    (u64::leading_zeros(u64_at(bytes, at)) / 8) as usize
 }
 
 // The length of bytes without trailing zeros, at least one where there are any: looked for from the end, up to the first byte that is not zero. The last byte is

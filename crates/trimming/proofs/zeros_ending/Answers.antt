@@ -14,6 +14,6 @@ pub returns : goal.returns
 returns c = let a = c.args in
     let bytes = a.bytes.now in
     let small : (i : ℕ) → get_or bytes i 0 < byte_values = λ i. (c.type_inv.bytes i).fits in
-    let word : c.word_at.result ≡ number_at 8 a.at bytes = c.word_at.ensures in
+    let word : c.u64_at.result ≡ number_at 8 a.at bytes = c.u64_at.ensures in
     ap (λ (n : ℕ). count_leading_zeros 64 n / 8 + significant (take 8 (drop a.at bytes))) word
     ∙ zeros_counted bytes small 8 a.at (search rules) (number_at_fits 8 a.at bytes small)
