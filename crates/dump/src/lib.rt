@@ -10,7 +10,7 @@ ghost use Rattle.plan.specs.View.{view};
 ghost use Rattle.adding.specs.Added.{Adds};
 ghost use Rattle.dump.specs.Dumps.{current_line, home_line, state_text, dump_text};
 
-use limits::{FENCE, FLIGHT, JUMP_COUNTS, RALLY, Refusal};
+use limits::{JUMP_COUNTS, Kind, Refusal};
 use plan::State;
 use plans::put_kind;
 use text::Text;
@@ -38,9 +38,9 @@ fn put_state(text: &mut Text, halves: bool, state: State, store: &[u32])
     ensures { Adds (state_text halves state store.now) text.old text.new }
 {
     let plans = state.plans;
-    put_kind(text, halves, FLIGHT, plans[0], store);
-    put_kind(text, halves, FENCE, plans[1], store);
-    put_kind(text, halves, RALLY, plans[2], store);
+    put_kind(text, halves, Kind::Flight, plans[0], store);
+    put_kind(text, halves, Kind::Fence, plans[1], store);
+    put_kind(text, halves, Kind::Rally, plans[2], store);
     let counts = state.counts;
     put_current(text, state.current, state.begun, counts);
     put_home(text, state.home);

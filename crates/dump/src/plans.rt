@@ -2,10 +2,11 @@
 ghost use Rattle.std.specs.Prelude.{◌≡◌, ◌-◌, get_or};
 ghost use Rattle.rules.specs.Messages.{item_of};
 ghost use Rattle.rules.specs.Words.{item_of_words};
+ghost use Rattle.limits.specs.Kinds.{kind_number};
 ghost use Rattle.adding.specs.Added.{Adds};
 ghost use Rattle.dump.specs.Plans.{item_line, item_lines, brought_lines, part_text, upload_line, half_mark, plan_line, kind_text};
 
-use limits::{ITEM_BYTES, ITEM_WORDS};
+use limits::{ITEM_BYTES, ITEM_WORDS, Kind};
 use plan::{Plan, Run};
 use text::Text;
 
@@ -49,20 +50,21 @@ fn put_item(text: &mut Text, letter: u8, kind: u8, n: u16, bytes: &[u8])
 }
 
 // The items of a kind in a half, from one number up to another.
-fn put_items(text: &mut Text, letter: u8, kind: u8, half: bool, from: u16, to: u16, store: &[u32])
-    ensures { Adds (item_lines letter kind half store.now from (to - from)) text.old text.new }
+fn put_items(text: &mut Text, letter: u8, kind: Kind, half: bool, from: u16, to: u16, store: &[u32])
+    ensures { Adds (item_lines letter (kind_number kind) half store.now from (to - from)) text.old text.new }
 {
+    let number = kind.number();
     for n in from..to {
         let place = places::place_at(kind, half, n);
-        let bytes = stored_item(text::part(store, place, ITEM_WORDS), kind, n);
-        put_item(text, letter, kind, n, &bytes);
+        let bytes = stored_item(text::part(store, place, ITEM_WORDS), number, n);
+        put_item(text, letter, number, n, &bytes);
     }
 }
 
 // The items that an upload has brought, which stand in a half.
 #[tactic(auto, unfolding(crate::specs::Plans::brought_lines))]
-fn put_brought(text: &mut Text, kind: u8, half: bool, upload: Option<Run>, store: &[u32])
-    ensures { Adds (brought_lines kind half upload store.now) text.old text.new }
+fn put_brought(text: &mut Text, kind: Kind, half: bool, upload: Option<Run>, store: &[u32])
+    ensures { Adds (brought_lines (kind_number kind) half upload store.now) text.old text.new }
 {
     if let Some(run) = upload {
         put_items(text, b'w', kind, half, run.first, run.next, store);
@@ -135,12 +137,11 @@ fn put_plan(text: &mut Text, halves: bool, kind: u8, plan: Plan)
 }
 
 // The plan of a kind, its upload, and the items of both.
-
-pub fn put_kind(text: &mut Text, halves: bool, kind: u8, plan: Plan, store: &[u32])
-    ensures { Adds (kind_text halves kind plan store.now) text.old text.new }
+pub fn put_kind(text: &mut Text, halves: bool, kind: Kind, plan: Plan, store: &[u32])
+    ensures { Adds (kind_text halves (kind_number kind) plan store.now) text.old text.new }
 {
     let upload = plan.upload;
-    put_plan(text, halves, kind, plan);
+    put_plan(text, halves, kind.number(), plan);
     put_items(text, b'i', kind, plan.half, 0, plan.len, store);
     put_brought(text, kind, !plan.half, upload, store);
 }

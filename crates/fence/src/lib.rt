@@ -4,11 +4,13 @@
 ghost use Rattle.std.specs.Prelude.{◌≡◌, ◌≤◌, length};
 ghost use Rattle.rules.specs.Limits.{fence, size_of, store_words};
 ghost use Rattle.rules.specs.Fence.{between, run_with, read_items, fence_ok};
+ghost use Rattle.limits.specs.Kinds.{kind_number};
 ghost use Rattle.places.specs.Forms.{words, items_in};
+ghost use Rattle.places.specs.KindItems.{first_items};
 ghost use Rattle.fence.specs.FenceReading.{open_reading, reading_of, read_as};
 
-use limits::{FENCE, MAX_RETURN_POINTS};
-use places::{command_at, param1_at, place_at, with_command};
+use limits::{Kind, MAX_RETURN_POINTS};
+use places::Items;
 use std::num::NonZeroU32;
 use values::{float_of, number_of};
 
@@ -60,16 +62,15 @@ fn read_item(run: Option<OpenRun>, command: u16, vertices: u32) -> Result<Option
     }
 }
 
-// Reading the first n fence items of a half.
-fn read_items(store: &[u32], half: bool, n: u16) -> Result<Option<OpenRun>, Broken>
-    requires { (store_words ≤ length store.now) × (n ≤ size_of fence) }
-    ensures { reading_of result ≡ read_items between (items_in words store.now half fence n) }
+// Reading the first n of some items.
+fn read_items(items: Items<'_>, n: u16) -> Result<Option<OpenRun>, Broken>
+    requires { n ≤ size_of (kind_number items.kind) }
+    ensures { reading_of result ≡ read_items between (first_items items.entry n) }
 {
     let mut run = None;
     for i in 0..n {
-        let at = place_at(FENCE, half, i);
-        let vertices = number_of(float_of(param1_at(store, at)));
-        run = read_item(run, command_at(store, at), vertices)?;
+        let vertices = number_of(float_of(items.param1(i)));
+        run = read_item(run, items.command(i), vertices)?;
     }
     Ok(run)
 }
@@ -79,7 +80,12 @@ pub fn fence_ok(store: &[u32], half: bool, n: u16) -> bool
     requires { (store_words ≤ length store.now) × (n ≤ size_of fence) }
     ensures { result ≡ fence_ok (items_in words store.now half fence n) }
 {
-    let points = with_command(store, FENCE, half, n, RETURN_POINT);
-    let whole = read_items(store, half, n).is_ok_and(|run| run.is_none());
+    let items = Items {
+        store,
+        kind: Kind::Fence,
+        half,
+    };
+    let points = items.with_command(n, RETURN_POINT);
+    let whole = read_items(items, n).is_ok_and(|run| run.is_none());
     whole & (points <= MAX_RETURN_POINTS)
 }

@@ -5,7 +5,7 @@ ghost use Rattle.std.specs.Prelude.{◌%◌, ◌≡◌, cond};
 ghost use Rattle.host.specs.Pokes.{poked_run, poked_upload, poked_plan, poked_plans, poked_counts, poked_state};
 ghost use Rattle.host.specs.Items.{item_word};
 
-use limits::{JUMP_COUNTS, RALLY};
+use limits::{JUMP_COUNTS, Kind};
 use plan::{Plan, Run, State, Station};
 
 #[tactic(auto, unfolding(crate::specs::Pokes::poked_run))]
@@ -116,10 +116,9 @@ fn poked_plan(plan: Plan, field: u8, value: u32) -> Plan
 fn poked_plans(plans: [Plan; 3], field: u8, index: u8, value: u32) -> [Plan; 3]
     ensures { result ≡ poked_plans plans field index value }
 {
-    let kind = index as usize;
     let mut after = plans;
-    if index <= RALLY {
-        after[kind] = poked_plan(plans[kind], field, value);
+    if let Ok(kind) = Kind::try_from(index) {
+        after[kind as usize] = poked_plan(plans[kind as usize], field, value);
     }
     after
 }
@@ -162,11 +161,10 @@ pub fn poked(state: State, field: u8, index: u8, value: u32) -> State
 pub fn item_word(state: State, kind: u8, other: bool, n: u16) -> usize
     ensures { result ≡ item_word state kind other n }
 {
-    if RALLY < kind {
+    let Ok(kind) = Kind::try_from(kind) else {
         return 0;
-    }
-    let index = kind as usize;
-    let plan = state.plans[index];
+    };
+    let plan = state.plans[kind as usize];
     if other {
         return places::place_at(kind, !plan.half, n);
     }

@@ -1,6 +1,7 @@
 -- What the code's command table says, in the rules' terms.
 use Rattle.std.specs.Prelude.{ℕ, List, [], ◌∷◌, cond, eqb, Option, None, Some}
 use Rattle.rules.specs.Items as rules
+use Rattle.limits.specs.Kinds.{kind_number}
 use Rattle.item_rules.specs.declared.table.ParamRule.{ParamRule}
 use Rattle.item_rules.specs.declared.table.ParamRule.TheVariants.{Anything, Finite, AtLeastZero, AboveZero, UpTo, Whole, WholeOrNone, Target}
 use Rattle.item_rules.specs.declared.table.Row.{Row}
@@ -19,7 +20,7 @@ rule_of (Target home) = rules.is_target home
 -- a command's row
 abbrev pub row_of : ℕ → Row → rules.Row
 row_of command row =
-    record { command = command; kind = row.kind; positional = row.positional; param1 = rule_of row.param1; param2 = rule_of row.param2 }
+    record { command = command; kind = kind_number row.kind; positional = row.positional; param1 = rule_of row.param1; param2 = rule_of row.param2 }
 
 -- the first row of a command
 unfoldable pub lookup : ℕ → List rules.Row → Option rules.Row

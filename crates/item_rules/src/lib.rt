@@ -31,7 +31,7 @@ fn listed_fault(
     ensures { result_code result ≡ fault_among (commands home) kind count own jumps (patterns item) }
 {
     let row = table::row_of(home, item.command).ok_or(Fault::Unsupported)?;
-    if row.kind != kind {
+    if row.kind.number() != kind {
         return Err(Fault::Unsupported);
     }
     checks::row_fault(row, item, count, own, jumps)

@@ -4,10 +4,8 @@ ghost use Rattle.std.specs.Option.{option_map};
 ghost use Rattle.rules.specs.Items.{commands};
 ghost use Rattle.item_rules.specs.Table.{row_of, lookup};
 
-use limits::{
-    CHANGE_SPEED, DELAY, DISTANCE, FENCE, FLIGHT, JUMP, RALLY, RETURN_HOME, SET_SERVO, WAYPOINT,
-    YAW,
-};
+use limits::Kind::{self, Fence, Flight, Rally};
+use limits::{CHANGE_SPEED, DELAY, DISTANCE, JUMP, RETURN_HOME, SET_SERVO, WAYPOINT, YAW};
 
 // What is asked of a param.
 #[derive(Clone, Copy)]
@@ -28,13 +26,13 @@ pub enum ParamRule {
 // A row of the table, for the commands of one arm.
 #[derive(Clone, Copy)]
 pub struct Row {
-    pub kind: u8,
+    pub kind: Kind,
     pub positional: bool,
     pub param1: ParamRule,
     pub param2: ParamRule,
 }
 
-fn listed_as(kind: u8, positional: bool, param1: ParamRule, param2: ParamRule) -> Option<Row>
+fn listed_as(kind: Kind, positional: bool, param1: ParamRule, param2: ParamRule) -> Option<Row>
     ensures { result ≡ Some (record { kind = kind; positional = positional; param1 = param1; param2 = param2 }) }
 {
     Some(Row {
@@ -50,28 +48,28 @@ pub fn row_of(home: bool, command: u16) -> Option<Row>
     ensures { option_map (row_of command) result ≡ lookup command (commands home) }
 {
     match command {
-        WAYPOINT | 18..=19 => listed_as(FLIGHT, true, ParamRule::AtLeastZero, ParamRule::Anything),
-        17 | 21..=22 | 31 => listed_as(FLIGHT, true, ParamRule::Anything, ParamRule::Anything),
-        RETURN_HOME => listed_as(FLIGHT, false, ParamRule::Anything, ParamRule::Anything),
-        DELAY | DISTANCE => listed_as(FLIGHT, false, ParamRule::AtLeastZero, ParamRule::Anything),
-        YAW => listed_as(FLIGHT, false, ParamRule::UpTo(360), ParamRule::Anything),
+        WAYPOINT | 18..=19 => listed_as(Flight, true, ParamRule::AtLeastZero, ParamRule::Anything),
+        17 | 21..=22 | 31 => listed_as(Flight, true, ParamRule::Anything, ParamRule::Anything),
+        RETURN_HOME => listed_as(Flight, false, ParamRule::Anything, ParamRule::Anything),
+        DELAY | DISTANCE => listed_as(Flight, false, ParamRule::AtLeastZero, ParamRule::Anything),
+        YAW => listed_as(Flight, false, ParamRule::UpTo(360), ParamRule::Anything),
         JUMP => listed_as(
-            FLIGHT,
+            Flight,
             false,
             ParamRule::Target(home),
             ParamRule::WholeOrNone(-1, 32767),
         ),
-        CHANGE_SPEED => listed_as(FLIGHT, false, ParamRule::Anything, ParamRule::Finite),
+        CHANGE_SPEED => listed_as(Flight, false, ParamRule::Anything, ParamRule::Finite),
         SET_SERVO => listed_as(
-            FLIGHT,
+            Flight,
             false,
             ParamRule::Whole(1, 16),
             ParamRule::Whole(500, 2500),
         ),
-        5000 => listed_as(FENCE, true, ParamRule::Anything, ParamRule::Anything),
-        5001..=5002 => listed_as(FENCE, true, ParamRule::Whole(3, 64), ParamRule::Anything),
-        5003..=5004 => listed_as(FENCE, true, ParamRule::AboveZero, ParamRule::Anything),
-        5100 => listed_as(RALLY, true, ParamRule::Anything, ParamRule::Anything),
+        5000 => listed_as(Fence, true, ParamRule::Anything, ParamRule::Anything),
+        5001..=5002 => listed_as(Fence, true, ParamRule::Whole(3, 64), ParamRule::Anything),
+        5003..=5004 => listed_as(Fence, true, ParamRule::AboveZero, ParamRule::Anything),
+        5100 => listed_as(Rally, true, ParamRule::Anything, ParamRule::Anything),
         _ => None,
     }
 }

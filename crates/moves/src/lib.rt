@@ -4,6 +4,7 @@
 ghost use Rattle.std.specs.Prelude.{◌≡◌, true, ◌≤◌, ◌<◌, length};
 ghost use Rattle.rules.specs.Limits.{flight, fence, rally, size_of};
 ghost use Rattle.rules.specs.Messages.{item_in};
+ghost use Rattle.limits.specs.Kinds.{kind_number};
 ghost use Rattle.item.specs.Patterns.{item_for};
 ghost use Rattle.places.specs.Forms.{words, bytes, least, offset_of, item_at};
 ghost use Rattle.plan.specs.View.{plan_of};
@@ -12,7 +13,7 @@ ghost use Rattle.moves.specs.Moves.{outcome_of, move_outcome, MovesToWords};
 ghost use Rattle.moves.specs.Moving.{moved_items, moved_plans};
 
 use item::Item;
-use limits::{FENCE, FLIGHT, ITEM_BYTES, NO_REPLY, RALLY, Refusal, STORE_WORDS};
+use limits::{ITEM_BYTES, Kind, NO_REPLY, Refusal, STORE_WORDS};
 use places::item_place;
 use plan::State;
 use ranges::ranged;
@@ -43,25 +44,25 @@ const STORE_BYTES: usize = 26752;
 
 // The byte at which the item with a number begins.
 #[tactic(auto, unfolding(places::specs::Forms::offset_of, places::specs::Forms::place_of))]
-fn byte_at(kind: u8, half: bool, n: u16) -> usize
-    ensures { result ≡ offset_of bytes half kind n }
+fn byte_at(kind: Kind, half: bool, n: u16) -> usize
+    ensures { result ≡ offset_of bytes half (kind_number kind) n }
 {
     item_place(kind, half, n) as usize * ITEM_BYTES
 }
 
 // The item with a number, from its bytes.
-fn old_item(old: &[u8], kind: u8, half: bool, n: u16) -> Item
-    requires { (least bytes ≤ length old.now) × (kind ≤ rally) × (n < size_of kind) }
-    ensures { result ≡ item_for (item_in (item_at bytes old.now half kind n)) }
+fn old_item(old: &[u8], kind: Kind, half: bool, n: u16) -> Item
+    requires { (least bytes ≤ length old.now) × (n < size_of (kind_number kind)) }
+    ensures { result ≡ item_for (item_in (item_at bytes old.now half (kind_number kind) n)) }
 {
     let at = byte_at(kind, half, n);
     item::item_at(&old[at..at + ITEM_BYTES])
 }
 
 // The first n items of a kind in a half go to their places among the words.
-fn move_items(old: &[u8], store: &mut [u32], kind: u8, half: bool, n: u16)
-    requires { (least bytes ≤ length old.now) × (least words ≤ length store.old) × (kind ≤ rally) × (n ≤ size_of kind) }
-    ensures { store.new ≡ moved_items old.now store.old half kind n }
+fn move_items(old: &[u8], store: &mut [u32], kind: Kind, half: bool, n: u16)
+    requires { (least bytes ≤ length old.now) × (least words ≤ length store.old) × (n ≤ size_of (kind_number kind)) }
+    ensures { store.new ≡ moved_items old.now store.old half (kind_number kind) n }
 {
     for i in 0..n {
         let item = old_item(old, kind, half, i);
@@ -75,9 +76,9 @@ fn move_plans(old: &[u8], store: &mut [u32], state: &State)
     ensures { store.new ≡ moved_plans old.now store.old (plan_of state.now flight) (plan_of state.now fence) (plan_of state.now rally) }
 {
     let [flight, fence, rally] = state.plans;
-    move_items(old, store, FLIGHT, flight.half, flight.len);
-    move_items(old, store, FENCE, fence.half, fence.len);
-    move_items(old, store, RALLY, rally.half, rally.len);
+    move_items(old, store, Kind::Flight, flight.half, flight.len);
+    move_items(old, store, Kind::Fence, fence.half, fence.len);
+    move_items(old, store, Kind::Rally, rally.half, rally.len);
 }
 
 // 14 if either store is too short, then 15.

@@ -2,12 +2,13 @@
 #![tactic(auto)]
 
 ghost use Rattle.std.specs.Prelude.{◌≡◌};
-ghost use Rattle.rules.specs.Limits.{flight, fence, rally};
+ghost use Rattle.rules.specs.Limits.{flight, fence, rally, size_of};
 ghost use Rattle.rules.specs.Model.{task_in_range};
+ghost use Rattle.limits.specs.Kinds.{kind_number};
 ghost use Rattle.plan.specs.View.{task_in, plan_of};
 ghost use Rattle.ranges.specs.Ranges.{run_ranged, upload_ranged, plan_ranged, counts_ranged, all_ranged};
 
-use limits::{FENCE, FLIGHT, JUMP_COUNTS, MAX_REPEATS, MAX_RUNS, RALLY};
+use limits::{JUMP_COUNTS, Kind, MAX_REPEATS, MAX_RUNS};
 use places::size_of;
 use plan::{Plan, Run, State};
 
@@ -41,9 +42,10 @@ fn upload_ranged(upload: Option<Run>, size: u16, len: u16) -> bool
 }
 
 #[tactic(auto, unfolding(crate::specs::Ranges::plan_ranged))]
-fn plan_ranged(plan: Plan, size: u16) -> bool
-    ensures { result ≡ plan_ranged size plan }
+fn plan_ranged(plan: Plan, kind: Kind) -> bool
+    ensures { result ≡ plan_ranged (size_of (kind_number kind)) plan }
 {
+    let size = size_of(kind.number());
     (plan.len <= size) & upload_ranged(plan.upload, size, plan.len)
 }
 
@@ -59,9 +61,9 @@ pub fn ranged(state: &State) -> bool
     ensures { result ≡ all_ranged (plan_of state.now flight) (plan_of state.now fence) (plan_of state.now rally) state.now.current state.now.counts }
 {
     let [flight, fence, rally] = state.plans;
-    plan_ranged(flight, size_of(FLIGHT))
-        & plan_ranged(fence, size_of(FENCE))
-        & plan_ranged(rally, size_of(RALLY))
+    plan_ranged(flight, Kind::Flight)
+        & plan_ranged(fence, Kind::Fence)
+        & plan_ranged(rally, Kind::Rally)
         & ((state.current < flight.len) | (state.current == 0))
         & counts_ranged(&state.counts)
 }

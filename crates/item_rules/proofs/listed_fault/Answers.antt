@@ -11,6 +11,7 @@ use Rattle.rules.specs.Limits.{unsupported}
 use Rattle.rules.specs.Messages as rules
 use Rattle.rules.specs.Items.{commands, fault_in, fault_among}
 use Rattle.limits.specs.declared.Fault.TheVariants.{Unsupported}
+use Rattle.limits.specs.Kinds.{kind_number}
 use Rattle.item_rules.specs.declared.table.Row.{Row}
 use Rattle.item_rules.specs.Table.{row_of, lookup}
 use Rattle.item_rules.proofs.Lookup.{by_found, by_lookup}
@@ -36,11 +37,12 @@ module _
       abbrev judged : Bool → ℕ
       judged t = cond t (fault_in (row_of i.command r) count own jumps i) unsupported
 
-      in_kind : (f : ℕ) → r.kind ≡ kind → f ≡ fault_in (row_of i.command r) count own jumps i → Gives f
-      in_kind f k e = e ∙ ap judged (sym (eq-eqb r.kind kind k)) ∙ by_row listed
+      module _ (number : ℕ) (is : number ≡ kind_number r.kind) where
+        in_kind : (f : ℕ) → number ≡ kind → f ≡ fault_in (row_of i.command r) count own jumps i → Gives f
+        in_kind f k e = e ∙ ap judged (sym (eq-eqb (kind_number r.kind) kind (sym is ∙ k))) ∙ by_row listed
 
-      of_another : (r.kind ≡ kind → ⊥) → Gives unsupported
-      of_another k = ap judged (sym (ne_eqb r.kind kind k)) ∙ by_row listed
+        of_another : (number ≡ kind → ⊥) → Gives unsupported
+        of_another k = ap judged (sym (ne_eqb (kind_number r.kind) kind (λ e. k (is ∙ e)))) ∙ by_row listed
 
     not_listed : l ≡ None → Gives unsupported
     not_listed e = by_row e
@@ -52,12 +54,12 @@ returns-in_err-row c =
     let e = err_from_is_err_and c.from_residual.result c.from_residual.ensures.1 in
     rw (e.1, e.2, is) (not_listed _ _ _ _ _ _ _ c.row_of.ensures none)
 
-pub returns-then-row-kind : goal.returns-then-row-kind
-returns-then-row-kind c =
+pub returns-then-number-kind : goal.returns-then-number-kind
+returns-then-number-kind c =
     let is : c.row_of.result ≡ Some c.in_ok-row.row = grind arith in
-    of_another _ _ _ _ _ _ _ c.row_of.ensures _ is c.if-row-kind.true
+    of_another _ _ _ _ _ _ _ c.row_of.ensures _ is _ c.number.ensures c.if-number-kind.true
 
 pub returns : goal.returns
 returns c =
     let is : c.row_of.result ≡ Some c.in_ok-row.row = grind arith in
-    in_kind _ _ _ _ _ _ _ c.row_of.ensures _ is _ c.if-row-kind.false c.row_fault.ensures
+    in_kind _ _ _ _ _ _ _ c.row_of.ensures _ is _ c.number.ensures _ c.if-number-kind.false c.row_fault.ensures

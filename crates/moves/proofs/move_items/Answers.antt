@@ -2,6 +2,7 @@
 use Rattle.std.proofs.Common.{◌≡◌, refl, ◌∙◌, sym, ap, ap₂, Bool, ℕ, ◌+◌, add-one}
 use Rattle.rules.specs.Messages.{item_in}
 use Rattle.rules.specs.Words.{words_of}
+use Rattle.limits.specs.Kinds.{kind_number}
 use Rattle.item.specs.declared.Item.{Item}
 use Rattle.item.specs.Patterns.{item_for, patterns}
 use Rattle.places.specs.Forms.{Store, words, bytes, item_at}
@@ -26,4 +27,4 @@ loop-i-init c = refl
 pub loop-i-preserved : goal.loop-i-preserved
 loop-i-preserved c = let a = c.args in
     let l = c.loop-i in
-    one_more a.old.now a.store.now l.store _ a.half a.kind l.i _ l.invariant c.old_item-item.ensures c.keep.ensures.0
+    one_more a.old.now a.store.now l.store _ a.half (kind_number a.kind) l.i _ l.invariant c.old_item-item.ensures c.keep.ensures.0

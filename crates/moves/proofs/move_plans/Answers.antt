@@ -19,15 +19,15 @@ all_moved old new one two three p q r first second third =
 
 pub move_items-requires : goal.move_items-requires
 move_items-requires c = let st = c.args.state.now in
-    (search rules, search rules, omega arith, omega (arith, (plan_ranges (plan_of st flight) (plan_of st fence) (plan_of st rally) (search rules) flight (omega arith)).len))
+    (search rules, search rules, omega (arith, (plan_ranges (plan_of st flight) (plan_of st fence) (plan_of st rally) (search rules) flight (omega arith)).len))
 
 pub move_items-requires-2 : goal.move_items-requires-2
 move_items-requires-2 c = let st = c.args.state.now in
-    (search rules, search rules, omega arith, omega (arith, (plan_ranges (plan_of st flight) (plan_of st fence) (plan_of st rally) (search rules) fence (omega arith)).len))
+    (search rules, search rules, omega (arith, (plan_ranges (plan_of st flight) (plan_of st fence) (plan_of st rally) (search rules) fence (omega arith)).len))
 
 pub move_items-requires-3 : goal.move_items-requires-3
 move_items-requires-3 c = let st = c.args.state.now in
-    (search rules, search rules, omega arith, omega (arith, (plan_ranges (plan_of st flight) (plan_of st fence) (plan_of st rally) (search rules) rally (omega arith)).len))
+    (search rules, search rules, omega (arith, (plan_ranges (plan_of st flight) (plan_of st fence) (plan_of st rally) (search rules) rally (omega arith)).len))
 
 pub returns : goal.returns
 returns c = let a = c.args in

@@ -2,6 +2,7 @@
 use Rattle.std.proofs.Common.{◌≡◌, ap, ◌∙◌, Bool, ℕ, ◌+◌, ◌-◌, take, drop, arith, rules}
 use Rattle.rules.specs.Limits.{item_bytes}
 use Rattle.rules.specs.Messages.{item_in}
+use Rattle.limits.specs.Kinds.{kind_number, kind_known}
 use Rattle.item.specs.declared.Item.{Item}
 use Rattle.item.specs.Patterns.{item_for}
 use Rattle.places.specs.Part.{part}
@@ -20,11 +21,11 @@ read_there store half kind n at i place read =
 
 pub overflow_add-at : goal.overflow_add-at
 overflow_add-at c = let a = c.args in
-    record { fits = omega (arith, offset_within bytes bytes_lawful a.half a.kind a.n (omega arith) (omega arith)) }
+    record { fits = omega (arith, offset_within bytes bytes_lawful a.half (kind_number a.kind) a.n (kind_known a.kind) (omega arith)) }
 
 pub slice_bounds-item_at-end : goal.slice_bounds-item_at-end
 slice_bounds-item_at-end c = let a = c.args in
-    omega (arith, offset_within bytes bytes_lawful a.half a.kind a.n (omega arith) (omega arith))
+    omega (arith, offset_within bytes bytes_lawful a.half (kind_number a.kind) a.n (kind_known a.kind) (omega arith))
 
 pub returns : goal.returns
 returns c = search (read_there, rules)

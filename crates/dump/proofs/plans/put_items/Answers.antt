@@ -12,7 +12,7 @@ loop-n-preserved c =
       within = omega arith;
       lines =
           items_more _ _ _ _ _ _ _ _ _ _ _ _
-          c.loop-n.auto.n c.place_at-place.ensures c.part.ensures c.stored_item-bytes.ensures c.loop-n.invariant.lines c.put_item.ensures;
+          c.loop-n.auto.n c.place_at-place.ensures c.part.ensures (rw c.number-number.ensures at c.stored_item-bytes.ensures) c.loop-n.invariant.lines (rw c.number-number.ensures at c.put_item.ensures);
     }
 
 pub returns : goal.returns

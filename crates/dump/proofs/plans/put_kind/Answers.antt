@@ -8,4 +8,4 @@ pub returns : goal.returns
 unfolding kind_text
 returns c =
     let all : c.args.plan.len - 0 ≡ c.args.plan.len = omega arith in
-    adds_both c.put_plan.ensures (adds_both (rw all at c.put_items.ensures) c.put_brought.ensures)
+    adds_both (rw c.number.ensures at c.put_plan.ensures) (adds_both (rw all at c.put_items.ensures) c.put_brought.ensures)
