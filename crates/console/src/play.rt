@@ -95,7 +95,7 @@ fn done(record: Record, text: &mut Text, store: &[u32], state: State) -> State {
 fn moved(record: Record, text: &mut Text, store: &mut [u32], old: &[u8], state: State) -> State {
     let from = text::first(old, record.a as usize);
     let moved = moves::to_words(state, from, front(store, record.store));
-    lines::put_moved(text, moved.outcome);
+    lines::put_moved(text, moved.outcome());
     moved.state
 }
 

@@ -9,6 +9,9 @@ use borrow.Author.Tests.{le-leb}
 use Rattle.rules.specs.Limits.{flight, fence, rally, size_of, no_reply}
 use Rattle.rules.specs.Model.{in_range}
 use Rattle.rule_laws.specs.Kinds.{each_kind}
+use Rattle.limits.specs.declared.Refusal.{Refusal}
+use Rattle.limits.specs.declared.Refusal.TheVariants.{ShortReply, EmptyPayload, NotRead, NotForUs, ShortStore, OutOfRange}
+use Rattle.limits.specs.Codes.{refusal_code}
 use Rattle.places.specs.Forms.{Store, bytes}
 use Rattle.plan.specs.declared.State.{State}
 use Rattle.plan.specs.declared.Plan.{Plan}
@@ -20,6 +23,15 @@ use Rattle.moves.specs.Moves.{outcome_of, MovesToWords}
 use Rattle.moves.specs.Outcome.{Movable, movable}
 use Rattle.moves.specs.Moving.{moved_plans, ended_state}
 use Rattle.moves.proofs.Moving.{plans_length, plans_moved, plans_beside}
+
+-- a refusal is another outcome
+pub not_moved : (r : Refusal) → refusal_code r ≡ no_reply → ⊥
+not_moved ShortReply e = omega arith
+not_moved EmptyPayload e = omega arith
+not_moved NotRead e = omega arith
+not_moved NotForUs e = omega arith
+not_moved ShortStore e = omega arith
+not_moved OutOfRange e = omega arith
 
 module _ (st : State) (old new : Store) (ranged : Bool) (outcome : ℕ)
     (test : ranged ≡ all_ranged (plan_of st flight) (plan_of st fence) (plan_of st rally) st.current st.counts)

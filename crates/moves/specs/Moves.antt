@@ -1,11 +1,13 @@
 -- What the move from bytes to words gives, for every state and every two stores. M-106: "a one-time move of the three plans (these eight words only) from the old store
 -- to the new; running uploads end. It answers 14 if either store is too short, then 15, changing nothing, else 1."
-use Rattle.std.specs.Prelude.{ℕ, suc, ◌≤◌, ◌≡◌, List, [], ◌∷◌, map, Bool, false, cond, ◌&&◌, ◌||◌, length, get_or, leb, ltb}
+use Rattle.std.specs.Prelude.{ℕ, suc, ◌≤◌, ◌≡◌, List, [], ◌∷◌, map, Bool, false, cond, ◌&&◌, ◌||◌, length, get_or, leb, ltb, Result, Ok, Err}
 use Rattle.rules.specs.Limits.{flight, fence, rally, kinds, no_reply, short_store, out_of_range}
 use Rattle.rules.specs.Payload.{Bytes}
 use Rattle.rules.specs.Messages.{item_of, item_in}
 use Rattle.rules.specs.Words.{words_of, item_of_words}
 use Rattle.rules.specs.Model.{idle, Model, plan_of, in_range}
+use Rattle.limits.specs.declared.Refusal.{Refusal}
+use Rattle.limits.specs.Codes.{refusal_code}
 use Rattle.places.specs.Forms.{Store, words, bytes, least, offset_of}
 use Rattle.plan.specs.declared.State.{State}
 use Rattle.plan.specs.View as plan
@@ -15,6 +17,11 @@ use Rattle.plan.specs.View.{view_in, view}
 abbrev pub outcome_of : (ranged : Bool) (old_length new_length : ℕ) → ℕ
 outcome_of ranged old_length new_length =
     cond (ltb old_length (least bytes) || ltb new_length (least words)) short_store (cond ranged no_reply out_of_range)
+
+-- the outcome of a move that was done or refused
+abbrev pub move_outcome : Result (Unit {0}) Refusal → ℕ
+move_outcome (Ok done) = no_reply
+move_outcome (Err r) = refusal_code r
 
 -- "these eight words only": the stored item that the words of a stored item are as number n of a kind
 abbrev pub placed : (kind n : ℕ) → Bytes → Bytes

@@ -8,7 +8,6 @@ use Rattle.rules.specs.Limits.{flight, fence, rally, size_of}
 use Rattle.rules.specs.Payload.{Bytes}
 use Rattle.rules.specs.Messages.{item_in}
 use Rattle.rules.specs.Words.{words_of}
-use Rattle.rule_laws.specs.Tests.{outside}
 use Rattle.rule_laws.specs.Words.{length_words_of}
 use Rattle.places.specs.Forms.{Store, words, bytes, least, offset_of, item_at, items_in, length_items}
 use Rattle.places.proofs.Lawful.{words_lawful}
@@ -17,7 +16,7 @@ use Rattle.plan.specs.declared.State.{State}
 use Rattle.plan.specs.declared.Plan.{Plan}
 use Rattle.plan.specs.View.{plan_of}
 use Rattle.upload.specs.Turns.{ended}
-use Rattle.moves.specs.Moves.{placed, placed_from, moved}
+use Rattle.moves.specs.Moves.{placed, placed_from}
 
 -- the store with the first n items of a kind in a half put into their places
 unfoldable pub moved_items : (old new : Store) (half : Bool) (kind n : ℕ) → Store
