@@ -48,9 +48,19 @@ unfolding each
 each_more text [] x = append-nil (text x)
 each_more text (y ∷ l) x = ap (λ (k : List ℕ). text y ++ k) (each_more text l x) ∙ sym (append_assoc (text y) (each text l) (text x))
 
+-- the texts of two lists
+pub each_both : {A : Type 0} (text : A → List ℕ) (a b : List A) → each text (a ++ b) ≡ each text a ++ each text b
+unfolding each
+each_both text [] b = refl
+each_both text (x ∷ a) b = ap (λ (k : List ℕ). text x ++ k) (each_both text a b) ∙ sym (append_assoc (text x) (each text a) (each text b))
+
+-- the texts of one element more
+pub each_front : {A : Type 0} (text : A → List ℕ) (l : List A) (i : ℕ) (x : A) → i < length l → each text (take (i + 1) l) ≡ each text (take i l) ++ text (get_or l i x)
+each_front text l i x h = rw (front_more l i x h) (each_more text (take i l) (get_or l i x))
+
 module _ {A : Type 0} (l : List A) (before between after : Filled) (i : ℕ) (x : A) (h : i < length l) where
   pub put_each_more : (text : A → List ℕ) → Adds (each text (take i l)) before between → Adds (text (get_or l i x)) between after → Adds (each text (take (i + 1) l)) before after
-  put_each_more text first second = rw (front_more l i x h, each_more text (take i l) (get_or l i x)) (adds_both first second)
+  put_each_more text first second = rw (each_front text l i x h) (adds_both first second)
 
   pub put_each_as
       : (text : A → List ℕ) (y : A) → y ≡ get_or l i x → Adds (each text (take i l)) before between → Adds (text y) between after → Adds (each text (take (i + 1) l)) before after

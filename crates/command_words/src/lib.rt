@@ -42,7 +42,8 @@ fn put_numbers(text: &mut Text, word: &[u8], list: &[u64])
 fn put_value(text: &mut Text, word: &[u8], n: u16, x: f32)
     ensures { Adds ((word.now ++ (spaced (n ∷ []) ++ value_text x)) ++ ascii "\n") text.old text.new }
 {
-    rows::put_line(text, word, &[n as u64], b" ", &value_bytes(x), b"\n");
+    let bytes = value_bytes(x);
+    rows::put_line(text, word, &[n as u64], b" ", &bytes, b"\n");
 }
 
 // The rest of a line from its command on.

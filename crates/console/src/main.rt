@@ -29,7 +29,7 @@ fn main(rt: HostRuntime) {
     let mut state = service::fresh(false);
     let mut unread = Unread { at: 0, end: 0 };
     for _ in 0..u64::MAX {
-        unread = streams::read_on(&mut stdin, &mut input, unread.at, unread.end, MOST_RECORD);
+        unread = streams::read_on(&mut stdin, &mut input, unread, MOST_RECORD);
         streams::send(&mut stdout, &mut text, MOST_LINES);
         let bytes = text::part(&input, unread.at, play::left(unread));
         let next = script::next_record(bytes);

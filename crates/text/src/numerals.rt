@@ -5,8 +5,8 @@ ghost use Rattle.text.specs.Digits.{digit as Digits·digit, decimal, after_space
 
 use adding::Text;
 
-// No number of 64 bits has more decimal digits.
-const MOST_DIGITS: usize = 20;
+// How many bytes' digits are made at once.
+const FEW: usize = 32;
 
 // A whole number of at most 64 bits.
 pub trait Number: Copy {
@@ -39,20 +39,11 @@ fn digit(n: u8) -> u8
     if n < 10 { 48 + n } else { 55 + n }
 }
 
-// A number in decimal digits, which are made from the last to the first.
+// A number in decimal digits.
 pub fn put_number(text: &mut Text, n: u64)
     ensures { Adds (decimal n) text.old text.new }
 {
-    let mut digits = [0u8; MOST_DIGITS];
-    let mut first = MOST_DIGITS - 1;
-    let mut left = n;
-    while 9 < left {
-        digits[first] = digit((left % 10) as u8);
-        first -= 1;
-        left = left / 10;
-    }
-    digits[first] = digit(left as u8);
-    text.put(&digits[first..]);
+    text.put(itoa::Buffer::new().format(n).as_bytes());
 }
 
 fn put_after_space(text: &mut Text, n: u64)
@@ -71,18 +62,28 @@ pub fn put_numbers<N: Number>(text: &mut Text, list: &[N])
     }
 }
 
-fn put_two_digits(text: &mut Text, byte: u8)
-    ensures { Adds (two_digits byte) text.old text.new }
+// The digits of bytes, of which there are few. They are made in an array, so that there is one test of room for all of them: `put_byte` for each takes
+// several times as long.
+fn put_few(text: &mut Text, bytes: &[u8])
+    requires { length bytes.now ≤ 32 }
+    ensures { Adds (hex bytes.now) text.old text.new }
 {
-    text.put_byte(digit(byte / 16));
-    text.put_byte(digit(byte % 16));
+    let mut digits = [0u8; 2 * FEW];
+    for (i, byte) in bytes.iter().enumerate() {
+        digits[2 * i] = digit(*byte / 16);
+        digits[2 * i + 1] = digit(*byte % 16);
+    }
+    text.put(&digits[..2 * bytes.len()]);
 }
 
 // Bytes, two hexadecimal digits each.
 pub fn put_hex(text: &mut Text, bytes: &[u8])
     ensures { Adds (hex bytes.now) text.old text.new }
 {
-    for byte in bytes {
-        put_two_digits(text, *byte);
+    let mut left = bytes;
+    while !left.is_empty() {
+        let (few, rest) = left.split_at(left.len().min(FEW));
+        put_few(text, few);
+        left = rest;
     }
 }

@@ -3,4 +3,4 @@ use Rattle.command_words.proofs.Ways.{value_line}
 use Rattle.command_words.proofs.put_value.Goals as goal
 
 pub returns : goal.returns
-returns c = value_line c.args.word.now _ c.args.n c.args.x c.value_bytes.ensures c.put_line.ensures
+returns c = value_line c.args.word.now _ c.args.n c.args.x c.value_bytes-bytes.ensures c.put_line.ensures

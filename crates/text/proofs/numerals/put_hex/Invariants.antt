@@ -1,7 +1,11 @@
-use lib.ListN.{take}
-use Rattle.adding.specs.Added.{Adds}
+use lib.ListN.{length}
+use Rattle.adding.specs.Added.{Filled, Adds}
 use Rattle.text.specs.Digits.{hex}
 use Rattle.text.proofs.numerals.put_hex.Given as goal
 
-abbrev pub invariant-loop-byte : goal.invariant-loop-byte
-invariant-loop-byte l = Adds (hex (take l.byte-index l.bytes)) l.initial.text l.text
+-- what adds the digits that are left adds those of all
+abbrev pub invariant-loop-left : goal.invariant-loop-left
+invariant-loop-left l = (after : Filled) → Adds (hex l.left) l.text after → Adds (hex l.bytes) l.initial.text after
+
+abbrev pub decreases-loop-left : goal.decreases-loop-left
+decreases-loop-left l = length l.left
