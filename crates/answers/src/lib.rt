@@ -1,105 +1,100 @@
 // What a call answers: its effect on the state, and what is said back, to a station and about a kind, with the reply written.
 #![tactic(auto)]
 
-ghost use Rattle.std.specs.Prelude.{◌≡◌, ◌≤◌, length};
-ghost use Rattle.rules.specs.Limits.{no_reply, reply_bytes_min};
+ghost use Rattle.std.specs.Prelude.{◌≡◌, ◌≤◌, length, Some};
+ghost use Rattle.rules.specs.Limits.{reply_bytes_min};
 ghost use Rattle.rules.specs.Messages.{station};
-ghost use Rattle.rules.specs.Messages as rules;
 ghost use Rattle.rules.specs.Step.{says};
 ghost use Rattle.record_steps.specs.Answers.{answer_of};
-ghost use Rattle.answers.specs.Answered.{Spoken, Handles, said};
+ghost use Rattle.answers.specs.Answered.{Spoken, Handles};
 
-use limits::NO_REPLY;
+use limits::{ACCEPTED, Fault};
+use payloads::Written;
+use plan::Station;
 use upload::{Effect, Say, Turned};
 
-pub const REPLIED: u8 = 0;
-
-// The outcome of a call, and the id and the length of the reply that was written.
+// A reply that was written: its message's id, and its length.
 #[derive(Clone, Copy)]
-pub struct Said {
-    pub outcome: u8,
+pub struct Reply {
     pub id: u32,
     pub len: usize,
 }
 
-// What was done and said.
+// What was done, and the reply, where there is one.
 #[derive(Clone, Copy)]
 pub struct Handled {
     pub effect: Effect,
-    pub said: Said,
+    pub reply: Option<Reply>,
 }
 
-pub fn ack(res: u8, kind: u8, number: u32, system: u8, component: u8, reply: &mut [u8]) -> Said
+// A message, written as the reply.
+pub fn reply_with<M: Written>(message: M, reply: &mut [u8]) -> Reply
     requires { reply_bytes_min ≤ length reply.old }
-    ensures { Spoken (says (rules.ack (station system component) res kind number)) reply.old reply.new result }
+    ensures { Spoken (says (M.message message)) reply.old reply.new (Some result) }
 {
+    Reply {
+        id: M::ID,
+        len: reply::write(message, reply),
+    }
+}
+
+// An ACK that accepts, with a plan number, or says a fault.
+pub fn ack(res: Result<u32, Fault>, kind: u8, to: Station, reply: &mut [u8]) -> Reply
+    requires { reply_bytes_min ≤ length reply.old }
+    ensures { Spoken (answer_of (Say.Ack res) (station to.system to.component) kind) reply.old reply.new (Some result) }
+{
+    let (result, number) = match res {
+        Ok(number) => (ACCEPTED, number),
+        Err(fault) => (fault.code(), 0),
+    };
     let message = wire::Ack {
-        system,
-        component,
-        result: res,
+        system: to.system,
+        component: to.component,
+        result,
         kind,
         number,
     };
-    let len = reply::write_ack(message, reply);
-    Said {
-        outcome: REPLIED,
-        id: wire::ACK_ID,
-        len,
-    }
+    reply_with(message, reply)
 }
 
-// Nothing is said.
-pub fn silent() -> Said
-    ensures { result ≡ said no_reply 0 0 }
-{
-    Said {
-        outcome: NO_REPLY,
-        id: 0,
-        len: 0,
-    }
-}
-
-pub fn speak(say: Say, kind: u8, system: u8, component: u8, reply: &mut [u8]) -> Said
+// What is said, written as the reply, where anything is.
+pub fn speak(what: Say, kind: u8, to: Station, reply: &mut [u8]) -> Option<Reply>
     requires { reply_bytes_min ≤ length reply.old }
-    ensures { Spoken (answer_of say (station system component) kind) reply.old reply.new result }
+    ensures { Spoken (answer_of what (station to.system to.component) kind) reply.old reply.new result }
 {
-    match say {
-        Say::Silent => silent(),
-        Say::Ack(result, number) => ack(result, kind, number, system, component, reply),
+    match what {
+        Say::Silent => None,
+        Say::Ack(res) => Some(ack(res, kind, to, reply)),
         Say::Ask(seq) => {
             let message = wire::RequestInt {
                 seq,
-                system,
-                component,
+                system: to.system,
+                component: to.component,
                 kind,
             };
-            let len = reply::write_request_int(message, reply);
-            Said {
-                outcome: REPLIED,
-                id: wire::REQUEST_INT_ID,
-                len,
-            }
+            Some(reply_with(message, reply))
         }
     }
 }
 
-// The answer of a handler that only says something.
-pub fn only(said: Said) -> Handled
-    ensures { result ≡ record { effect = Effect.Nothing; said = said } }
+// What a handler does that only replies.
+pub fn only(reply: Reply) -> Handled
+    ensures { result ≡ record { effect = Effect.Nothing; reply = Some reply } }
 {
     Handled {
         effect: Effect::Nothing,
-        said,
+        reply: Some(reply),
     }
 }
 
 // What a handler of one plan does, and what it says to a station.
-pub fn told(turned: Turned, kind: u8, system: u8, component: u8, reply: &mut [u8]) -> Handled
+pub fn told(turned: Turned, kind: u8, to: Station, reply: &mut [u8]) -> Handled
     requires { reply_bytes_min ≤ length reply.old }
-    ensures { Handles turned.effect (answer_of turned.say (station system component) kind) reply.old reply.new result }
+    ensures { Handles turned.effect (answer_of turned.say (station to.system to.component) kind) reply.old reply.new result }
 {
-    let effect = turned.effect;
-    let say = turned.say;
-    let said = speak(say, kind, system, component, reply);
-    Handled { effect, said }
+    let reply = speak(turned.say, kind, to, reply);
+    Handled {
+        effect: turned.effect,
+        reply,
+    }
 }

@@ -11,8 +11,14 @@ pub enum Case {
         len: usize,
         room: usize,
     },
-    Lengths { id: u32, full: usize },
-    Whole { bits: u32, meant: i32 },
+    Lengths {
+        id: u32,
+        full: usize,
+    },
+    Whole {
+        bits: u32,
+        meant: i32,
+    },
 }
 
 fn message(id: u32, from: usize, len: usize, room: usize) -> Case {

@@ -37,12 +37,12 @@ pub fn own_bytes(id: u32, payload: &[u8]) -> [u8; OWN_BYTES] {
 // The message of these own bytes, written: how many bytes that takes, or 0 for one that is only read.
 pub fn written(id: u32, own: &[u8; OWN_BYTES], to: &mut [u8]) -> usize {
     match id {
-        wire::CURRENT_ID => reply::write_current(current(), to),
-        wire::STATUSTEXT_ID => reply::write_statustext(statustext(), to),
-        wire::COUNT_ID => reply::write_count(wire::read_count(own), to),
-        wire::ACK_ID => reply::write_ack(wire::read_ack(own), to),
-        wire::REQUEST_INT_ID => reply::write_request_int(wire::read_request_int(own), to),
-        wire::ITEM_INT_ID => reply::write_item_int(wire::read_item_int(own), to),
+        wire::CURRENT_ID => reply::write(current(), to),
+        wire::STATUSTEXT_ID => reply::write(statustext(), to),
+        wire::COUNT_ID => reply::write(wire::read_count(own), to),
+        wire::ACK_ID => reply::write(wire::read_ack(own), to),
+        wire::REQUEST_INT_ID => reply::write(wire::read_request_int(own), to),
+        wire::ITEM_INT_ID => reply::write(wire::read_item_int(own), to),
         _ => 0,
     }
 }

@@ -1,17 +1,13 @@
 -- What the ways of a timer call and of "command done" need and give, over plain variables: a refused call's promise; and of any other the facts that its handler asks for, and the
 -- promise by the handler's effect.
 use Prim.Native.Nat.{ℕ, ◌+◌, ◌≤◌, ◌<◌}
-use native.Mathlib.Omega.{arith}
 use mathlib.Core.Path.{◌≡◌, refl, sym, ap, subst, ◌∙◌}
-use mathlib.Core.Logic.{⊎_elim}
-use mathlib.Core.List.{List, [], ◌∷◌, map}
-use mathlib.Core.Bool.{Bool, true, false, cond}
-use lib.ListN.{length, length-map}
+use mathlib.Core.List.{[]}
+use mathlib.Core.Bool.{Bool, true, cond}
+use lib.ListN.{length}
 use lib.Dec.{ltb}
-use types.Run.{OneOf}
-use denote.Enum.Declared.{tag_of}
 use borrow.Author.Tests.{le-leb}
-use Rattle.rules.specs.Limits.{flight, fence, rally, kinds, size_of, store_words, reply_bytes_min, max_followed, max_repeats, expiry_ms, no_reply}
+use Rattle.rules.specs.Limits.{flight, fence, rally, kinds, size_of, store_words, reply_bytes_min, max_followed, max_repeats, expiry_ms}
 use Rattle.rules.specs.Payload.{Bytes}
 use Rattle.rules.specs.Model as model
 use Rattle.rules.specs.Model.{in_range, elapsed, flown}
@@ -20,11 +16,12 @@ use Rattle.rules.specs.Calls.{Call, timer, done, expiry, command_done, heard}
 use Rattle.rules.specs.Step.{orders, command_in, on_timer}
 use Rattle.rule_laws.specs.Tests.{either}
 use Rattle.rule_laws.specs.Refused.{plain_stuck, timer_plain}
-use Rattle.command.specs.declared.Command.TheVariants.{Stuck}
+use Rattle.std.specs.Prelude.{Option, None, Some, Result, Ok, Err}
+use Rattle.limits.specs.declared.Refusal.{Refusal}
+use Rattle.limits.specs.Codes.{refusal_code, outcome_code, refused}
 use Rattle.plan.specs.declared.State.{State}
 use Rattle.plan.specs.declared.Plan.{Plan}
-use Rattle.plan.specs.declared.Upload.{Upload}
-use Rattle.plan.specs.declared.Upload.TheVariants.{Idle, Running}
+use Rattle.plan.specs.declared.Run.{Run}
 use Rattle.places.specs.Forms.{Store, words, items_in}
 use Rattle.places.proofs.Lawful.{words_lawful}
 use Rattle.plan.specs.View.{plan_of, view_in, view}
@@ -36,12 +33,12 @@ use Rattle.upload.specs.Turns.{timer_turned}
 use Rattle.upload.specs.Effects.{turned_state, applied}
 use Rattle.upload.specs.declared.Effect.{Effect}
 use Rattle.upload.specs.declared.Effect.TheVariants.{Nothing, Turns, Renews, Changes, EmptiesAll, Chooses}
-use Rattle.upload.specs.contracts.Effect.{the_type}
 use Rattle.answers.specs.declared.Handled.{Handled}
 use Rattle.answers.specs.Answered.{Handles}
 use Rattle.protocol.specs.Handlers.{DoneBy}
 use Rattle.record_steps.specs.Doing.{Done, timer_done}
 use Rattle.next_command.specs.declared.find.Found.{Found}
+use Rattle.next_command.specs.declared.find.Stand.{Stand}
 use Rattle.next_command.specs.Finding.{found_of}
 use Rattle.next_command.specs.OrderedBy.{OrderedBy, reached_state, reaches}
 use Rattle.refine.specs.After.{gives, after}
@@ -51,13 +48,9 @@ use Rattle.refine.specs.Serving.{steps_serve}
 use Rattle.own_calls.specs.declared.Served.{Served}
 use Rattle.own_calls.specs.Calls.{Serves, served_result, advance_result, refused_serves}
 
--- a state's plans are three, as it is held
-pub length_mapped : (X Y : Type 0) (f : X → Y) (l : List X) (n : ℕ) → length (map f l) ≡ n → length l ≡ n
-length_mapped X Y f l n e = sym (length-map l f) ∙ e
-
 -- the result of a message or a timer call: this state, and what was said
 abbrev pub served : State → Handled → Served
-served st h = record { state = st; outcome = h.said.outcome; id = h.said.id; len = h.said.len }
+served st h = record { state = st; answer = Ok h.reply }
 
 -- a handler's effect, put into the state, serves the call
 pub applied_serves :
@@ -87,18 +80,19 @@ pub record TimerTaken (st : State) (s : Store) (b : Bytes) (kind clock : ℕ) : 
   pub room : reply_bytes_min ≤ length b
   pub says : heard (in_range (view st s)) (timer kind clock (length s) (length b)) ≡ expiry clock kind
 
-module _ (st : State) (s : Store) (b : Bytes) (kind clock : ℕ) (ranged : Bool) (outcome : ℕ)
+module _ (st : State) (s : Store) (b : Bytes) (kind clock : ℕ) (ranged : Bool) {T : Type 0} (verdict : Result T Refusal)
     (test : ranged ≡ all_ranged (plan_of st flight) (plan_of st fence) (plan_of st rally) st.current st.counts)
-    (refusal : (now : ℕ) → outcome ≡ refusal_of (heard ranged (timer kind now (length s) (length b)))) where
+    (refusal : (now : ℕ) → outcome_code verdict ≡ refusal_of (heard ranged (timer kind now (length s) (length b)))) where
   abbrev ticked : Call
   ticked = timer kind clock (length s) (length b)
 
-  pub timer_refused : (outcome ≡ 0 → ⊥) → Serves ticked st s s b b (served_result (record { state = st; outcome = outcome; id = 0; len = 0 }))
-  timer_refused some = refused_serves ticked st s b ranged outcome (in_range_lem words st s ranged test) (refusal clock) some
+  pub timer_refused : (r : Refusal) → verdict ≡ Err r → Serves ticked st s s b b (served_result (record { state = st; answer = Err r }))
+  timer_refused r is =
+      refused_serves ticked st s b ranged (refusal_code r) (in_range_lem words st s ranged test) (ap outcome_code (sym is) ∙ refusal clock) (refused r)
 
-  pub timer_taken : outcome ≡ 0 → length st.plans ≡ length kinds → TimerTaken st s b kind clock
-  timer_taken none three =
-      let said : HeardTimer ranged kind clock (length s) (length b) = timer_heard ranged kind clock (length s) (length b) (sym (refusal clock) ∙ none) in
+  pub timer_taken : (v : T) → verdict ≡ Ok v → length st.plans ≡ length kinds → TimerTaken st s b kind clock
+  timer_taken v is three =
+      let said : HeardTimer ranged kind clock (length s) (length b) = timer_heard ranged kind clock (length s) (length b) (sym (refusal clock) ∙ ap outcome_code is) in
       record {
         ranges = sym (in_range_lem words st s ranged test) ∙ said.there.in_range;
         three = three;
@@ -116,26 +110,23 @@ TurnsAtMost (Changes p) = ⊥
 TurnsAtMost EmptiesAll = ⊥
 TurnsAtMost (Chooses seq) = ⊥
 
-turns_at_most : (p : Plan) (now : ℕ) (u : Upload) → TurnsAtMost (timer_turned u p now).effect
+turns_at_most : (p : Plan) (now : ℕ) (u : Option Run) → TurnsAtMost (timer_turned u p now).effect
 unfolding timer_turned
-turns_at_most p now Idle = tt
-turns_at_most p now (Running r) =
+turns_at_most p now None = tt
+turns_at_most p now (Some r) =
     either Of (ltb (elapsed now r.started) expiry_ms) (λ t. tt) (λ t. either Of (ltb r.repeats max_repeats) (λ t. tt) (λ t. tt))
   where
     Of : Turned → Type 0
     Of t = TurnsAtMost t.effect
 
--- where it is none of the others it is nothing
-no_turn : (e : Effect) → TurnsAtMost e → OneOf (0 ∷ 2 ∷ 3 ∷ 4 ∷ 5 ∷ []) (tag_of the_type e) → e ≡ Nothing
-no_turn Nothing least tag = refl
-no_turn (Turns p) least tag =
-    absurd
-    (⊎_elim (λ h. omega arith)
-    (λ other. ⊎_elim (λ h. omega arith) (λ another. ⊎_elim (λ h. omega arith) (λ last. ⊎_elim (λ h. omega arith) (λ h. omega arith) last) another) other) tag)
-no_turn (Renews p) least tag = absurd least
-no_turn (Changes p) least tag = absurd least
-no_turn EmptiesAll least tag = absurd least
-no_turn (Chooses seq) least tag = absurd least
+-- where it puts none in it is nothing
+no_turn : (e : Effect) → TurnsAtMost e → ((p : Plan) → e ≡ Turns p → ⊥) → e ≡ Nothing
+no_turn Nothing least other = refl
+no_turn (Turns p) least other = absurd (other p refl)
+no_turn (Renews p) least other = absurd least
+no_turn (Changes p) least other = absurd least
+no_turn EmptiesAll least other = absurd least
+no_turn (Chooses seq) least other = absurd least
 
 -- what the handler did
 module _ (st : State) (s : Store) (b : Bytes) (kind clock : ℕ) (taken : TimerTaken st s b kind clock) (b' : Bytes) (h : Handled)
@@ -155,12 +146,12 @@ module _ (st : State) (s : Store) (b : Bytes) (kind clock : ℕ) (taken : TimerT
   pub timer_turns : (plan : Plan) → h.effect ≡ Turns plan → Serves (timer kind clock (length s) (length b)) st s s b b' (served_result (served (turned_state st kind plan) h))
   timer_turns plan is = timer_serves (Turns plan) is
 
-  pub timer_nothing : OneOf (0 ∷ 2 ∷ 3 ∷ 4 ∷ 5 ∷ []) (tag_of the_type h.effect) → Serves (timer kind clock (length s) (length b)) st s s b b' (served_result (served st h))
+  pub timer_nothing : ((q : Plan) → h.effect ≡ Turns q → ⊥) → Serves (timer kind clock (length s) (length b)) st s s b b' (served_result (served st h))
   unfolding timer_done
-  timer_nothing tag =
+  timer_nothing other =
       let p = plan_of st kind in
       let least = subst TurnsAtMost (sym (by s).effect) (turns_at_most p clock p.upload) in
-      timer_serves Nothing (no_turn h.effect least tag)
+      timer_serves Nothing (no_turn h.effect least other)
 
 -- ---- "command done"
 
@@ -173,14 +164,16 @@ pub record DoneTaken (st : State) (s : Store) : Type 0 where
   pub current : st.current < size_of flight
   pub says : heard (in_range (view st s)) (done (length s)) ≡ command_done
 
-module _ (st : State) (s : Store) (ranged : Bool) (outcome : ℕ) (test : ranged ≡ all_ranged (plan_of st flight) (plan_of st fence) (plan_of st rally) st.current st.counts)
-    (refusal : outcome ≡ refusal_of (heard ranged (done (length s)))) where
-  pub done_refused : (outcome ≡ 0 → ⊥) → Serves (done (length s)) st s s [] [] (advance_result (record { state = st; outcome = outcome; command = Stuck }))
-  done_refused some = refused_serves (done (length s)) st s [] ranged outcome (in_range_lem words st s ranged test) refusal some
+module _ (st : State) (s : Store) (ranged : Bool) {T : Type 0} (verdict : Result T Refusal)
+    (test : ranged ≡ all_ranged (plan_of st flight) (plan_of st fence) (plan_of st rally) st.current st.counts)
+    (refusal : outcome_code verdict ≡ refusal_of (heard ranged (done (length s)))) where
+  pub done_refused : (r : Refusal) → verdict ≡ Err r → Serves (done (length s)) st s s [] [] (advance_result (record { state = st; answer = Err r }))
+  done_refused r is =
+      refused_serves (done (length s)) st s [] ranged (refusal_code r) (in_range_lem words st s ranged test) (ap outcome_code (sym is) ∙ refusal) (refused r)
 
-  pub done_taken : outcome ≡ 0 → length st.plans ≡ length kinds → DoneTaken st s
-  done_taken none three =
-      let said : HeardDone ranged (length s) = done_heard ranged (length s) (sym refusal ∙ none) in
+  pub done_taken : (v : T) → verdict ≡ Ok v → length st.plans ≡ length kinds → DoneTaken st s
+  done_taken v is three =
+      let said : HeardDone ranged (length s) = done_heard ranged (length s) (sym refusal ∙ ap outcome_code is) in
       let all : all_ranged (plan_of st flight) (plan_of st fence) (plan_of st rally) st.current st.counts ≡ true = sym test ∙ said.in_range in
       record {
         ranges = sym (in_range_lem words st s ranged test) ∙ said.in_range;
@@ -197,24 +190,24 @@ module _ (st : State) (s : Store) (taken : DoneTaken st s) (f : Found)
     found_of f
     ≡ rules.search st.home max_followed (items_in words s (plan_of st flight).half flight (plan_of st flight).len) st.counts
     (flown st.home (cond st.begun (st.current + 1) st.current))) where
-  ordered : OrderedBy st s (reached_state st f.stands f.n f.counts) f.command
+  ordered : OrderedBy st s (reached_state st f.stand) f.command
   unfolding rules.next view_in
   ordered = reaches st s f finds
 
-  done_serves : (stands : Bool) → f.stands ≡ stands
-      → Serves (done (length s)) st s s [] [] (advance_result (record { state = reached_state st stands f.n f.counts; outcome = no_reply; command = f.command }))
-  done_serves stands is =
-      let st' = reached_state st stands f.n f.counts in
-      let r = advance_result (record { state = st'; outcome = no_reply; command = f.command }) in
-      let by : OrderedBy st s st' f.command = subst (λ (t : Bool). OrderedBy st s (reached_state st t f.n f.counts) f.command) is ordered in
+  done_serves : (stand : Option Stand) → f.stand ≡ stand
+      → Serves (done (length s)) st s s [] [] (advance_result (record { state = reached_state st stand; answer = Ok f.command }))
+  done_serves stand is =
+      let st' = reached_state st stand in
+      let r = advance_result (record { state = st'; answer = Ok f.command }) in
+      let by : OrderedBy st s st' f.command = subst (λ (t : Option Stand). OrderedBy st s (reached_state st t) f.command) is ordered in
       steps_serve words words_lawful (done (length s)) st s s [] [] (gives st' s (orders (rules.answer_of (rules.next (view st s).shown)))) r
       (done_steps words words_lawful (done (length s)) st s taken.three taken.ranges st' by.shown by.plans taken.says)
       (record { state = refl; store = refl; outcome = refl; id = refl; len = refl; command = by.answer; buffer = refl; reads = tt })
 
-  pub done_stands : f.stands ≡ true
+  pub done_stands : (stand : Stand) → f.stand ≡ Some stand
       → Serves (done (length s)) st s s [] []
-      (advance_result (record { state = record { plans = st.plans; current = f.n; begun = true; home = st.home; counts = f.counts }; outcome = no_reply; command = f.command }))
-  done_stands is = done_serves true is
+      (advance_result (record { state = record { plans = st.plans; current = stand.n; begun = true; home = st.home; counts = stand.counts }; answer = Ok f.command }))
+  done_stands stand is = done_serves (Some stand) is
 
-  pub done_stays : f.stands ≡ false → Serves (done (length s)) st s s [] [] (advance_result (record { state = st; outcome = no_reply; command = f.command }))
-  done_stays is = done_serves false is
+  pub done_stays : f.stand ≡ None → Serves (done (length s)) st s s [] [] (advance_result (record { state = st; answer = Ok f.command }))
+  done_stays is = done_serves None is

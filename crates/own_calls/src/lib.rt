@@ -2,65 +2,108 @@
 // `Serves` of specs/Calls.antt, over the rules' own step.
 #![tactic(auto)]
 
-ghost use Rattle.std.specs.Prelude.{[], length};
+ghost use Rattle.std.specs.Prelude.{◌≡◌, [], length};
 ghost use Rattle.rules.specs.Calls as calls;
-ghost use Rattle.own_calls.specs.Calls.{Serves, served_result, advance_result};
+ghost use Rattle.own_calls.specs.Calls.{Serves, answer_outcome, answer_id, answer_len, advance_outcome, advance_command, served_result, advance_result};
 
+use answers::Reply;
 use command::Command;
-use limits::NO_REPLY;
+use limits::{NO_REPLY, Refusal};
 use plan::State;
 use protocol::expire;
 use ranges::ranged;
 use refusal::{done_refusal, timer_refusal};
 use upload::Effect;
 
-// What a message or a timer call returns beside the store and the reply buffer: the state after it, its outcome, and the reply's id and length.
+// The outcome of a call that replied.
+pub const REPLIED: u8 = 0;
+
+// What a message or a timer call returns beside the store and the reply buffer: the state after it, and the reply, where there is one, or why it is refused.
 #[derive(Clone, Copy)]
 pub struct Served {
     pub state: State,
-    pub outcome: u8,
-    pub id: u32,
-    pub len: usize,
+    pub answer: Result<Option<Reply>, Refusal>,
 }
 
-// What a "command done" call returns: the state after it, its outcome, and the command.
+// The numbers that a call returns.
+impl Served {
+    // The outcome.
+    pub fn outcome(&self) -> u8
+        ensures { result ≡ answer_outcome self.now.answer }
+    {
+        match self.answer {
+            Ok(Some(_)) => REPLIED,
+            Ok(None) => NO_REPLY,
+            Err(refusal) => refusal.code(),
+        }
+    }
+
+    // The reply's id; 0 without one.
+    pub fn id(&self) -> u32
+        ensures { result ≡ answer_id self.now.answer }
+    {
+        match self.answer {
+            Ok(Some(reply)) => reply.id,
+            _ => 0,
+        }
+    }
+
+    // The reply's length; 0 without one.
+    pub fn len(&self) -> usize
+        ensures { result ≡ answer_len self.now.answer }
+    {
+        match self.answer {
+            Ok(Some(reply)) => reply.len,
+            _ => 0,
+        }
+    }
+}
+
+// What a "command done" call returns: the state after it, and the command, or why it is refused.
 #[derive(Clone, Copy)]
 pub struct Advanced {
     pub state: State,
-    pub outcome: u8,
-    pub command: Command,
+    pub answer: Result<Command, Refusal>,
+}
+
+impl Advanced {
+    // The outcome: no reply is written.
+    pub fn outcome(&self) -> u8
+        ensures { result ≡ advance_outcome self.now.answer }
+    {
+        match self.answer {
+            Ok(_) => NO_REPLY,
+            Err(reason) => reason.code(),
+        }
+    }
+
+    // The command; Stuck where the call is refused.
+    pub fn command(&self) -> Command
+        ensures { result ≡ advance_command self.now.answer }
+    {
+        self.answer.unwrap_or(Command::Stuck)
+    }
 }
 
 // A timer call for one kind. Wrong answers that this rules out: refusing everything, and expiries by another clock than the one handed in.
 pub fn timer(mut state: State, store: &[u32], reply: &mut [u8], kind: u8, clock: u32) -> Served
     ensures { Serves (calls.timer kind clock (length store.now) (length reply.old)) state store.now store.now reply.old reply.new (served_result result) }
 {
-    let flight = state.plans[0];
-    let fence = state.plans[1];
-    let rally = state.plans[2];
-    let in_range = ranged(flight, fence, rally, state.current, state.counts);
-    let refused = timer_refusal(in_range, store.len(), reply.len(), kind);
-    if refused != 0 {
+    let in_range = ranged(&state);
+    if let Err(refusal) = timer_refusal(in_range, store.len(), reply.len(), kind) {
         return Served {
             state,
-            outcome: refused,
-            id: 0,
-            len: 0,
+            answer: Err(refusal),
         };
     }
     let k = kind as usize;
-    let plan = state.plans[k];
-    let done = expire(plan, kind, clock, reply);
-    let said = done.said;
-    let effect = done.effect;
-    if let Effect::Turns(plan) = effect {
+    let done = expire(state.plans[k], kind, clock, reply);
+    if let Effect::Turns(plan) = done.effect {
         state.plans[k] = plan;
     }
     Served {
         state,
-        outcome: said.outcome,
-        id: said.id,
-        len: said.len,
+        answer: Ok(done.reply),
     }
 }
 
@@ -68,37 +111,29 @@ pub fn timer(mut state: State, store: &[u32], reply: &mut [u8], kind: u8, clock:
 pub fn advance(mut state: State, store: &[u32]) -> Advanced
     ensures { Serves (calls.done (length store.now)) state store.now store.now [] [] (advance_result result) }
 {
-    let flight = state.plans[0];
-    let fence = state.plans[1];
-    let rally = state.plans[2];
-    let in_range = ranged(flight, fence, rally, state.current, state.counts);
-    let refused = done_refusal(in_range, store.len());
-    if refused != 0 {
+    let in_range = ranged(&state);
+    if let Err(refusal) = done_refusal(in_range, store.len()) {
         return Advanced {
             state,
-            outcome: refused,
-            command: Command::Stuck,
+            answer: Err(refusal),
         };
     }
-    let counts = state.counts;
     let found = next_command::next(
         state.home,
         store,
-        flight,
+        state.plans[0],
         state.current,
         state.begun,
-        counts,
+        state.counts,
     );
-    if found.stands {
-        let runs = found.counts;
-        state.current = found.n;
+    if let Some(stand) = found.stand {
+        let runs = stand.counts;
+        state.current = stand.n;
         state.begun = true;
         state.counts = runs;
     }
-    let command = found.command;
     Advanced {
         state,
-        outcome: NO_REPLY,
-        command,
+        answer: Ok(found.command),
     }
 }

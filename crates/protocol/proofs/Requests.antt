@@ -1,21 +1,23 @@
--- What a message asks by its id: which kinds it may have, which id is left where the others are excluded, and which messages speak of one plan. Each goes down
+-- What a message asks by its id: which kinds it may have, which messages speak of one plan, and that an ACK is not answered. Each goes down
 -- the rules' chain of ids.
-use Prim.Native.Nat.{ℕ}
-use mathlib.Core.Path.{◌≡◌, refl, sym}
+use Prim.Native.Nat.{ℕ, ◌≤◌}
+use mathlib.Core.Path.{◌≡◌, refl, ◌∙◌}
 use mathlib.Core.List.{List}
-use mathlib.Core.Bool.{Bool, true, true≢false}
+use mathlib.Core.Bool.{Bool, true, false, not, cond, ◌&&◌}
 use lib.Dec.{eqb}
-use borrow.Author.Tests.{eqb-true}
+use borrow.Author.Tests.{eqb-true, leb-true}
 use Rattle.rules.specs.Payload.{Bytes}
 use Rattle.rules.specs.Layouts.{partial_list_id, set_current_id, current_id, request_list_id, count_id, clear_all_id, ack_id, request_int_id, item_int_id, statustext_id}
 use Rattle.rules.specs.Messages.{Station, Message, message_of, decode}
 use Rattle.rule_laws.specs.Tests.{either}
 use Rattle.rules.specs.Calls.{is_known}
 use Rattle.rules.specs.Step.{kind_ok}
-use Rattle.message_table.specs.Table.{is_read}
 use Rattle.places.specs.Forms.{Store, words}
 use Rattle.plan.specs.declared.Plan.{Plan}
 use Rattle.refusal.specs.Refusals.{request_of}
+use Rattle.rules.specs.Limits.{rally, accepted}
+use Rattle.upload.specs.declared.Say.TheVariants.{Silent}
+use Rattle.upload.specs.Turns.{ended, keeps, moves, own_upload, ack_turned}
 use Rattle.record_steps.specs.Doing.{plan_among, plan_done, known_done}
 
 -- every message but CLEAR_ALL and ACK may have the kinds up to the last
@@ -36,26 +38,6 @@ kind_known id kind p n45 n47 =
     P : Message → Type 0
     P m = is_known kind ≡ kind_ok kind (request_of m)
 
--- a message that is read here and is none of the others is ITEM_INT
-pub item_left : (id : ℕ) (p : Bytes) → is_read (decode id p) ≡ true
-    → (id ≡ partial_list_id → ⊥) → (id ≡ set_current_id → ⊥) → (id ≡ request_list_id → ⊥) → (id ≡ count_id → ⊥) → (id ≡ clear_all_id → ⊥) → (id ≡ ack_id → ⊥) → (id ≡ request_int_id → ⊥)
-    → id ≡ item_int_id
-unfolding decode message_of
-item_left id p read n38 n41 n43 n44 n45 n47 n51 =
-    either P (eqb id partial_list_id) (λ e r. absurd (n38 (eqb-true id partial_list_id e))) (λ e.
-    either P (eqb id set_current_id) (λ e r. absurd (n41 (eqb-true id set_current_id e))) (λ e.
-    either P (eqb id current_id) (λ e r. absurd (true≢false (sym r))) (λ e.
-    either P (eqb id request_list_id) (λ e r. absurd (n43 (eqb-true id request_list_id e))) (λ e.
-    either P (eqb id count_id) (λ e r. absurd (n44 (eqb-true id count_id e))) (λ e.
-    either P (eqb id clear_all_id) (λ e r. absurd (n45 (eqb-true id clear_all_id e))) (λ e.
-    either P (eqb id ack_id) (λ e r. absurd (n47 (eqb-true id ack_id e))) (λ e.
-    either P (eqb id request_int_id) (λ e r. absurd (n51 (eqb-true id request_int_id e))) (λ e.
-    either P (eqb id item_int_id) (λ e r. eqb-true id item_int_id e) (λ e.
-    either P (eqb id statustext_id) (λ e r. absurd (true≢false (sym r))) (λ e r. absurd (true≢false (sym r)))))))))))) read
-  where
-    P : Message → Type 0
-    P m = is_read m ≡ true → id ≡ item_int_id
-
 -- every message but SET_CURRENT and CLEAR_ALL speaks of the plan of its kind
 pub of_one_plan : (home : Bool) (ps : List Plan) (current : ℕ) (s : Store) (from : Station) (now kind id : ℕ) (p : Bytes) → (id ≡ set_current_id → ⊥) → (id ≡ clear_all_id → ⊥)
     → known_done words home ps current s from now kind (request_of (decode id p)) ≡ plan_done words home (plan_among ps kind) current s from now kind (request_of (decode id p))
@@ -74,3 +56,16 @@ of_one_plan home ps current s from now kind id p n41 n45 =
   where
     P : Message → Type 0
     P m = known_done words home ps current s from now kind (request_of m) ≡ plan_done words home (plan_among ps kind) current s from now kind (request_of m)
+
+-- an ACK's turn says nothing
+pub says_nothing : (p : Plan) (from : Station) (result : ℕ) → (ack_turned p from result).say ≡ Silent
+unfolding ack_turned
+says_nothing p from result = go (own_upload from p.upload && not (eqb result accepted))
+  where
+    go : (t : Bool) → (cond t (moves (ended p) Silent) (keeps Silent)).say ≡ Silent
+    go true = refl
+    go false = refl
+
+-- a message that may have a kind, and is not CLEAR_ALL or ACK, has one of the three
+pub known_kind : (kind id : ℕ) (p : Bytes) → kind_ok kind (request_of (decode id p)) ≡ true → (id ≡ clear_all_id → ⊥) → (id ≡ ack_id → ⊥) → kind ≤ rally
+known_kind kind id p ok n45 n47 = leb-true kind rally (kind_known id kind p n45 n47 ∙ ok)

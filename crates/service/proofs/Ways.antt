@@ -8,15 +8,18 @@ use mathlib.Core.Bool.{Bool, true}
 use lib.ListN.{length, get_or, set}
 use borrow.Author.Tests.{leb-true, eq-eqb, ne_eqb}
 use Rattle.rules.specs.Limits.{flight, fence, rally, kinds, store_words, reply_bytes_min}
+use Rattle.std.specs.Prelude.{Option, Some, Result, Ok, Err, IfOk}
 use Rattle.rules.specs.Payload.{Bytes}
 use Rattle.rules.specs.Messages.{Station, Message, decode}
 use Rattle.rules.specs.Model.{in_range, no_counts}
 use Rattle.rules.specs.Calls.{Call, message, Request, request, heard}
 use Rattle.rules.specs.Step.{command_in, on_message}
 use Rattle.rule_laws.specs.Refused.{plain_stuck, message_plain}
+use Rattle.limits.specs.declared.Refusal.{Refusal}
+use Rattle.limits.specs.Codes.{refusal_code, outcome_code, refused}
 use Rattle.message_table.specs.declared.Head.{Head}
 use Rattle.message_table.specs.declared.Received.{Received}
-use Rattle.message_table.specs.Table.{is_read, kind_of, ReadAs}
+use Rattle.message_table.specs.Table.{is_read, head_of, ReadAs}
 use Rattle.plan.specs.declared.State.{State}
 use Rattle.plan.specs.declared.Plan.{Plan}
 use Rattle.rule_laws.specs.Brought.{request_kind}
@@ -38,33 +41,6 @@ use Rattle.refine.specs.Messages.{message_agrees}
 use Rattle.own_calls.specs.Calls.{Serves, served_result, refused_serves}
 use Rattle.own_calls.proofs.Ways.{served, applied_serves}
 
--- the three of them
-three_plans : (l : List Plan) → length l ≡ length kinds → ◌≡◌ {A = List Plan} (get_or l flight empty_plan ∷ get_or l fence empty_plan ∷ get_or l rally empty_plan ∷ []) l
-three_plans (a ∷ b ∷ c ∷ []) three = refl
-three_plans [] three = absurd (omega arith)
-three_plans (a ∷ []) three = absurd (omega arith)
-three_plans (a ∷ b ∷ []) three = absurd (omega arith)
-three_plans (a ∷ b ∷ c ∷ d ∷ l) three = absurd (omega arith)
-
--- all of them emptied, one after the other
-all_emptied :
-    (l : List Plan) → length l ≡ length kinds → (current : ℕ) (begun home : Bool) (counts : List ℕ)
-    → ◌≡◌ {A = State}
-    (record {
-      plans = emptied (get_or l flight empty_plan) ∷ emptied (get_or l fence empty_plan) ∷ emptied (get_or l rally empty_plan) ∷ [];
-      current = (fresh_state home).current;
-      begun = (fresh_state home).begun;
-      home = (fresh_state home).home;
-      counts = (fresh_state home).counts;
-    })
-    (emptied_state (record { plans = l; current = current; begun = begun; home = home; counts = counts }) kinds)
-unfolding renewed_state
-all_emptied (a ∷ b ∷ c ∷ []) three current begun home counts = refl
-all_emptied [] three current begun home counts = absurd (omega arith)
-all_emptied (a ∷ []) three current begun home counts = absurd (omega arith)
-all_emptied (a ∷ b ∷ []) three current begun home counts = absurd (omega arith)
-all_emptied (a ∷ b ∷ c ∷ d ∷ l) three current begun home counts = absurd (omega arith)
-
 -- ---- message
 
 -- a message call that is not refused: what its handler may rely on, and what is heard is what was received
@@ -77,26 +53,27 @@ pub record MessageTaken (st : State) (s : Store) (b : Bytes) (own from : Station
   pub read : is_read (decode id got.own) ≡ true
   pub says : heard (in_range (view st s)) (message own from id p clock (length s) (length b)) ≡ request from clock got.head.kind (request_of (decode id got.own))
 
-module _ (st : State) (s : Store) (b : Bytes) (own from : Station) (id : ℕ) (p : Bytes) (clock : ℕ) (ranged : Bool) (got : Received) (outcome : ℕ)
-    (test : ranged ≡ all_ranged (plan_of st flight) (plan_of st fence) (plan_of st rally) st.current st.counts) (read : ReadAs id p got)
+module _ (st : State) (s : Store) (b : Bytes) (own from : Station) (id : ℕ) (p : Bytes) (clock : ℕ) (ranged : Bool) (received : Option Received) (verdict : Result Received Refusal)
+    (test : ranged ≡ all_ranged (plan_of st flight) (plan_of st fence) (plan_of st rally) st.current st.counts) (read : ReadAs id p received)
     (refusal :
-    (f : Station) (i : ℕ) (q : Bytes) (now : ℕ) → length q ≡ length p → HeadRead i q got.read got.head
-    → outcome ≡ refusal_of (heard ranged (message own f i q now (length s) (length b)))) where
+    (f : Station) (i : ℕ) (q : Bytes) (now : ℕ) → length q ≡ length p → HeadRead i q received
+    → outcome_code verdict ≡ refusal_of (heard ranged (message own f i q now (length s) (length b)))) where
   abbrev sent : Call
   sent = message own from id p clock (length s) (length b)
 
-  message_outcome : outcome ≡ refusal_of (heard ranged sent)
+  message_outcome : outcome_code verdict ≡ refusal_of (heard ranged sent)
   message_outcome = refusal from id p clock refl (record { is_read = read.read; heads = read.heads })
 
-  pub message_refused : (outcome ≡ 0 → ⊥) → Serves sent st s s b b (served_result (record { state = st; outcome = outcome; id = 0; len = 0 }))
-  message_refused some = refused_serves sent st s b ranged outcome (in_range_lem words st s ranged test) message_outcome some
+  pub message_refused : (r : Refusal) → verdict ≡ Err r → Serves sent st s s b b (served_result (record { state = st; answer = Err r }))
+  message_refused r is =
+      refused_serves sent st s b ranged (refusal_code r) (in_range_lem words st s ranged test) (ap outcome_code (sym is) ∙ message_outcome) (refused r)
 
-  pub message_taken : outcome ≡ 0 → length st.plans ≡ length kinds → MessageTaken st s b own from id p clock got
-  message_taken none three =
-      let said : HeardMessage ranged own from id p clock (length s) (length b) = message_heard ranged own from id p clock (length s) (length b) (sym message_outcome ∙ none) in
-      let is_read_so : got.read ≡ true = read.read ∙ said.read in
-      let own_bytes : decode id got.own ≡ decode id p = read.decodes is_read_so in
-      let kind : got.head.kind ≡ kind_of (decode id p) = ap (λ (h : Head). h.kind) (read.heads is_read_so) in
+  pub message_taken : (got : Received) → verdict ≡ Ok got → IfOk verdict (λ (x : Received). received ≡ Some x) → length st.plans ≡ length kinds → MessageTaken st s b own from id p clock got
+  message_taken got is given three =
+      let said : HeardMessage ranged own from id p clock (length s) (length b) = message_heard ranged own from id p clock (length s) (length b) (sym message_outcome ∙ ap outcome_code is) in
+      let there : received ≡ Some got = rw is at given in
+      let own_bytes : decode id got.own ≡ decode id p = rw there at read.decodes in
+      let head : got.head ≡ head_of (decode id p) = rw there at read.heads in
       record {
         ranges = sym (in_range_lem words st s ranged test) ∙ said.there.in_range;
         plans = plans_ranged_lem (plan_of st flight) (plan_of st fence) (plan_of st rally) st.current st.counts (sym test ∙ said.there.in_range);
@@ -106,20 +83,18 @@ module _ (st : State) (s : Store) (b : Bytes) (own from : Station) (id : ℕ) (p
         read = ap is_read own_bytes ∙ said.read;
         says =
             ap (λ (t : Bool). heard t sent) (sym (in_range_lem words st s ranged test)) ∙ said.says
-            ∙ sym (ap₂ (λ (k : ℕ) (m : Message). request from clock k (request_of m)) kind own_bytes);
+            ∙ sym (ap₂ (λ (k : ℕ) (m : Message). request from clock k (request_of m)) (ap (λ (h : Head). h.kind) head) own_bytes);
       }
 
 -- the plan at the place of a kind is that of the kind
-pub plan_at_lem : (st : State) → length st.plans ≡ length kinds → (kind place : ℕ) → (kind ≤ rally → place ≡ kind)
-    → IsPlanOf kind (get_or st.plans place empty_plan) (plan_of st flight) (plan_of st fence) (plan_of st rally)
-plan_at_lem st three kind place stands known =
-    ap (plan_of st) (stands known) ∙ ap (λ (l : List Plan). get_or l kind empty_plan) (sym (three_plans st.plans three))
+pub plan_at_lem : (st : State) (kind place : ℕ) → (kind ≤ rally → place ≡ kind) → IsPlanOf kind (get_or st.plans place empty_plan) st.plans
+plan_at_lem st kind place stands known = ap (plan_of st) (stands known)
 
 -- what the handler did, and the place at which the plan of the kind stands
 module _ (st : State) (s : Store) (b : Bytes) (own from : Station) (id : ℕ) (p : Bytes) (clock : ℕ) (got : Received) (taken : MessageTaken st s b own from id p clock got)
     (s' : Store) (b' : Bytes) (h : Handled)
     (by :
-    DoneBy (message_done words st.home (plan_of st flight ∷ plan_of st fence ∷ plan_of st rally ∷ []) st.current s from clock got.head.kind (request_of (decode id got.own)))
+    DoneBy (message_done words st.home st.plans st.current s from clock got.head.kind (request_of (decode id got.own)))
     s' b b' h) where
   abbrev c : Call
   c = message own from id p clock (length s) (length b)
@@ -130,64 +105,23 @@ module _ (st : State) (s : Store) (b : Bytes) (own from : Station) (id : ℕ) (p
   abbrev q : Request
   q = request_of (decode id got.own)
 
-  done_by_lem : DoneBy (message_done words st.home st.plans st.current s from clock k q) s' b b' h
-  done_by_lem = rw (three_plans st.plans taken.three) at by
-
-  message_serves : (e : Effect) → h.effect ≡ e → Serves c st s s' b b' (served_result (served (applied st k e) h))
-  message_serves e is =
+  pub message_serves : (st' : State) → st' ≡ applied st k h.effect → Serves c st s s' b b' (served_result (served st' h))
+  message_serves st' is =
       let agree = message_agrees words words_lawful st s taken.three taken.long taken.ranges from clock k q (request_kind (in_range (view st s)) c taken.says) in
-      applied_serves c st s s' b b' k (message_done words st.home st.plans st.current s from clock k q) h
+      rw is (applied_serves c st s s' b b' k (message_done words st.home st.plans st.current s from clock k q) h
       (message_steps words words_lawful c st s taken.three taken.ranges taken.long from clock k q taken.says)
       (ap command_in agree.answer ∙ plain_stuck (on_message (view st s) from clock k q).answer (message_plain (view st s) from clock k q))
-      done_by_lem e is
+      by h.effect refl)
 
-  pub message_nothing : h.effect ≡ Nothing → Serves c st s s' b b' (served_result (served st h))
-  message_nothing is = message_serves Nothing is
-
-  pub message_chooses : (seq : ℕ) → h.effect ≡ Chooses seq → Serves c st s s' b b' (served_result (served (chosen_state st seq) h))
-  message_chooses seq is = message_serves (Chooses seq) is
-
-  pub message_empties :
-      (x y z : Plan) (begins : State) → begins ≡ fresh_state st.home → h.effect ≡ EmptiesAll
-      → x ≡ emptied (plan_of st flight) → y ≡ emptied (plan_of st fence) → z ≡ emptied (plan_of st rally)
-      → Serves c st s s' b b' (served_result (served (record { plans = x ∷ y ∷ z ∷ []; current = begins.current; begun = begins.begun; home = begins.home; counts = begins.counts }) h))
-  message_empties x y z begins new is ex ey ez =
-      rw (new, ex, ey, ez)
-      (subst (λ (t : State). Serves c st s s' b b' (served_result (served t h))) (sym (all_emptied st.plans taken.three st.current st.begun st.home st.counts))
-      (message_serves EmptiesAll is))
-
-  -- a plan that is put in is of a known kind, and stands at its place
+  -- a plan that is put in is of a known kind
   effect_ok : (e : Effect) → h.effect ≡ e → EffectOk words words_lawful k (plan_of st k) e
-  effect_ok e is = subst (EffectOk words words_lawful k (plan_of st k)) (sym done_by_lem.handles.effect ∙ is) (message_effect words words_lawful st s taken.three taken.long taken.ranges from clock k q)
+  effect_ok e is = subst (EffectOk words words_lawful k (plan_of st k)) (sym by.handles.effect ∙ is) (message_effect words words_lawful st s taken.three taken.long taken.ranges from clock k q)
 
-  module _ (place : ℕ) (stands : k ≤ rally → place ≡ k) (plan : Plan) where
-    pub message_turns : h.effect ≡ Turns plan → Serves c st s s' b b' (served_result (served (turned_state st place plan) h))
-    message_turns is = rw (stands (leb-true k rally (effect_ok (Turns plan) is).0)) (message_serves (Turns plan) is)
+  pub known_turned : (p : Plan) → h.effect ≡ Turns p → k ≤ rally
+  known_turned p is = leb-true k rally (effect_ok (Turns p) is).0
 
-    pub message_renews : h.effect ≡ Renews plan → (k ≡ flight → ⊥) → Serves c st s s' b b' (served_result (served (turned_state st place plan) h))
-    unfolding renewed_state
-    message_renews is other =
-        rw (stands (leb-true k rally (effect_ok (Renews plan) is).0))
-        (rw (ne_eqb k flight other) at (message_serves (Renews plan) is))
+  pub known_renewed : (p : Plan) → h.effect ≡ Renews p → k ≤ rally
+  known_renewed p is = leb-true k rally (effect_ok (Renews p) is).0
 
-    pub message_restarts :
-        (begins : State) → begins ≡ fresh_state st.home → h.effect ≡ Renews plan → k ≡ flight
-        → Serves c st s s' b b' (served_result (served (record { plans = set st.plans place plan; current = begins.current; begun = begins.begun; home = begins.home; counts = begins.counts }) h))
-    unfolding renewed_state
-    message_restarts begins new is first =
-        rw (new, stands (leb-true k rally (effect_ok (Renews plan) is).0))
-        (rw (eq-eqb k flight first) at (message_serves (Renews plan) is))
-
-    pub message_changes : h.effect ≡ Changes plan → (k ≡ flight → ⊥) → Serves c st s s' b b' (served_result (served (turned_state st place plan) h))
-    unfolding renewed_state
-    message_changes is other =
-        rw (stands (leb-true k rally (effect_ok (Changes plan) is).0))
-        (rw (ne_eqb k flight other) at (message_serves (Changes plan) is))
-
-    pub message_recounts :
-        h.effect ≡ Changes plan → k ≡ flight
-        → Serves c st s s' b b' (served_result (served (record { plans = set st.plans place plan; current = st.current; begun = st.begun; home = st.home; counts = no_counts }) h))
-    unfolding renewed_state
-    message_recounts is first =
-        rw (stands (leb-true k rally (effect_ok (Changes plan) is).0))
-        (rw (eq-eqb k flight first) at (message_serves (Changes plan) is))
+  pub known_changed : (p : Plan) → h.effect ≡ Changes p → k ≤ rally
+  known_changed p is = leb-true k rally (effect_ok (Changes p) is).0

@@ -1,5 +1,5 @@
 // The drone's mission service: a fresh start, a message, a timer call and "command done". These are its only public calls; none asks anything of its
-// caller, and no function below them takes or gives the state. What each promises is `Serves` of own_calls/specs/Calls.antt, over the rules' own step.
+// caller, and no function below them gives the state. What each promises is `Serves` of own_calls/specs/Calls.antt, over the rules' own step.
 #![tactic(auto)]
 
 ghost use Rattle.std.specs.Prelude.{◌≡◌, ◌≤◌, ◌<◌, length};
@@ -7,11 +7,13 @@ ghost use Rattle.rules.specs.Limits as limits;
 ghost use Rattle.rules.specs.Limits.{kinds};
 ghost use Rattle.rules.specs.Messages.{station};
 ghost use Rattle.rules.specs.Calls as calls;
+ghost use Rattle.plan.specs.declared.Plan.{Plan};
+ghost use Rattle.upload.specs.Effects.{applied};
 ghost use Rattle.own_calls.specs.Calls.{Serves, served_result};
 
 use limits::{FLIGHT, JUMP_COUNTS, RALLY};
 use message_table::receive;
-use plan::State;
+use plan::{State, Station};
 use protocol::answer;
 use ranges::ranged;
 use refusal::message_refusal;
@@ -28,10 +30,49 @@ pub use own_calls::{Advanced, Served, advance, timer};
 fn place_of(kind: u8) -> usize
     ensures { (result < length kinds) × (kind ≤ limits.rally → result ≡ kind) }
 {
-    if kind <= RALLY {
-        return kind as usize;
+    if kind <= RALLY { kind as usize } else { 0 }
+}
+
+// What a handler did, put into the state. A plan that is put in is of a known kind.
+fn apply(state: &mut State, kind: u8, effect: Effect)
+    requires three { length state.old.plans ≡ length kinds }
+    requires turned { (p : Plan) → effect ≡ Effect.Turns p → kind ≤ limits.rally }
+    requires renewed { (p : Plan) → effect ≡ Effect.Renews p → kind ≤ limits.rally }
+    requires changed { (p : Plan) → effect ≡ Effect.Changes p → kind ≤ limits.rally }
+    ensures { state.new ≡ applied state.old kind effect }
+{
+    let k = kind as usize;
+    match effect {
+        Effect::Nothing => {}
+        Effect::Turns(plan) => {
+            state.plans[k] = plan;
+        }
+        Effect::Renews(plan) => {
+            state.plans[k] = plan;
+            if kind == FLIGHT {
+                *state = State {
+                    plans: state.plans,
+                    ..fresh(state.home)
+                };
+            }
+        }
+        Effect::Changes(plan) => {
+            state.plans[k] = plan;
+            if kind == FLIGHT {
+                state.counts = [0; JUMP_COUNTS];
+            }
+        }
+        Effect::EmptiesAll => {
+            *state = State {
+                plans: state.plans.map(emptied),
+                ..fresh(state.home)
+            };
+        }
+        Effect::Chooses(seq) => {
+            state.current = seq;
+            state.begun = false;
+        }
     }
-    0
 }
 
 // A message call. Wrong answers that this rules out: refusing everything, and a reply that goes to another station than the sender.
@@ -49,85 +90,45 @@ pub fn message(
 ) -> Served
     ensures { Serves (calls.message (station own_system own_component) (station system component) id payload.now clock (length store.old) (length reply.old)) state store.old store.new reply.old reply.new (served_result result) }
 {
-    let flight = state.plans[0];
-    let fence = state.plans[1];
-    let rally = state.plans[2];
-    let in_range = ranged(flight, fence, rally, state.current, state.counts);
-    let got = receive(id, payload);
-    let head = got.head;
-    let refused = message_refusal(
+    let in_range = ranged(&state);
+    let received = receive(id, payload);
+    let verdict = message_refusal(
         in_range,
         store.len(),
         reply.len(),
         own_system,
         own_component,
         payload.len(),
-        got.read,
-        head,
+        received,
     );
-    if refused != 0 {
-        return Served {
-            state,
-            outcome: refused,
-            id: 0,
-            len: 0,
-        };
-    }
-    let kind = head.kind;
+    let got = match verdict {
+        Ok(got) => got,
+        Err(refusal) => {
+            return Served {
+                state,
+                answer: Err(refusal),
+            };
+        }
+    };
+    let from = Station { system, component };
+    let kind = got.head.kind;
     let k = place_of(kind);
-    let plan = state.plans[k];
     let done = answer(
         state.home,
-        plan,
-        flight,
-        fence,
-        rally,
+        state.plans[k],
+        &state.plans,
         state.current,
         store,
         reply,
         kind,
-        system,
-        component,
+        from,
         id,
         &got.own,
         clock,
     );
-    let said = done.said;
-    let effect = done.effect;
-    match effect {
-        Effect::Nothing => {}
-        Effect::Turns(plan) => {
-            state.plans[k] = plan;
-        }
-        Effect::Renews(plan) => {
-            state.plans[k] = plan;
-            if kind == FLIGHT {
-                let after = state.plans;
-                state = fresh(state.home);
-                state.plans = after;
-            }
-        }
-        Effect::Changes(plan) => {
-            state.plans[k] = plan;
-            if kind == FLIGHT {
-                let none = [0u16; JUMP_COUNTS];
-                state.counts = none;
-            }
-        }
-        Effect::EmptiesAll => {
-            let after = [emptied(flight), emptied(fence), emptied(rally)];
-            state = fresh(state.home);
-            state.plans = after;
-        }
-        Effect::Chooses(seq) => {
-            state.current = seq;
-            state.begun = false;
-        }
-    }
+    apply(&mut state, kind, done.effect);
     Served {
         state,
-        outcome: said.outcome,
-        id: said.id,
-        len: said.len,
+        answer: Ok(done.reply),
     }
 }

@@ -1,128 +1,70 @@
--- Kind first. Then each id's message is the request that its struct reads as, and its own function answers it: one lemma a way.
+-- Kind first: one that a message may have is one of the three, unless the message is CLEAR_ALL or ACK. Then a message that speaks of one plan does what it does to that.
 use Prim.Native.Nat.{ℕ, ◌≤◌}
-use mathlib.Core.Path.{◌≡◌, refl, sym, ap, subst, ◌∙◌}
+use native.Mathlib.Omega.{arith}
+use mathlib.Core.Path.{◌≡◌, sym, subst, ◌∙◌}
 use mathlib.Core.List.{List, [], ◌∷◌}
-use mathlib.Core.Bool.{Bool, true, false, not, ◌||◌}
+use mathlib.Core.Bool.{Bool, true, ◌||◌}
 use lib.Dec.{eqb}
-use borrow.Author.Tests.{leb-true, not-true, not-false}
-use Rattle.rules.specs.Limits.{rally, every_kind, unsupported}
+use lib.ListN.{length}
+use borrow.Author.Rules.{rules}
+use Rattle.rules.specs.Limits.{flight, fence, rally, kinds, every_kind}
 use Rattle.rules.specs.Payload.{Bytes}
-use Rattle.rules.specs.Layouts.{set_current_id, clear_all_id, ack_id}
-use Rattle.rules.specs.Messages.{Station, ack, message_of, decode}
-use Rattle.rules.specs.Model.{flown}
-use Rattle.rules.specs.Calls.{Request, chooses, clears, acknowledges, is_known}
-use Rattle.rules.specs.Step.{says, kind_ok}
-use Rattle.wire.specs.declared.structs.SetCurrent.{SetCurrent}
-use Rattle.wire.specs.declared.structs.Ack.{Ack}
-use Rattle.wire.specs.Structs.{set_current_message, ack_message}
+use Rattle.rules.specs.Layouts.{set_current_id, clear_all_id}
+use Rattle.rules.specs.Messages.{Station, message_of, decode}
+use Rattle.rules.specs.Calls.{is_known}
+use Rattle.rules.specs.Step.{kind_ok}
 use Rattle.places.specs.Forms.{Store, words}
 use Rattle.plan.specs.declared.Plan.{Plan}
 use Rattle.ranges.specs.Ranges.{plans_ranged}
 use Rattle.ranges.specs.Ranged.{PlanRanges, plan_ranges}
 use Rattle.refusal.specs.Refusals.{request_of}
-use Rattle.upload.specs.declared.Effect.TheVariants.{Nothing}
-use Rattle.answers.specs.declared.Said.{Said}
 use Rattle.answers.specs.declared.Handled.{Handled}
-use Rattle.answers.specs.Answered.{Spoken, Handles}
-use Rattle.record_steps.specs.Shown.{choose_effect, choose_answer}
 use Rattle.protocol.specs.Handlers.{DoneBy}
-use Rattle.record_steps.specs.Doing.{IsPlanOf, plan_among, clear_done, plan_done, known_done, message_done}
-use Rattle.protocol.proofs.Requests.{kind_known, of_one_plan}
-use borrow.Author.Rules.{rules}
+use Rattle.record_steps.specs.Doing.{IsPlanOf, plan_among, plan_done, known_done, message_done}
+use Rattle.protocol.proofs.Requests.{known_kind, of_one_plan}
 use Rattle.protocol.proofs.answer.Goals as goal
 
--- the kinds that a message may have
-module _ (kind id : ℕ) (ok : Bool) (oks : (payload : Bytes) → ok ≡ kind_ok kind (request_of (decode id payload))) (may : not ok ≡ false) where
-  known_or_every : id ≡ clear_all_id → (is_known kind || eqb kind every_kind) ≡ true
-  unfolding decode message_of kind_ok
-  known_or_every e = rw e at (sym (oks []) ∙ not-false ok may)
+known_or_every : (kind id : ℕ) (p : Bytes) → kind_ok kind (request_of (decode id p)) ≡ true → id ≡ clear_all_id → (is_known kind || eqb kind every_kind) ≡ true
+unfolding decode message_of kind_ok
+known_or_every kind id p ok e = rw e at ok
 
-  module _ (n45 : id ≡ clear_all_id → ⊥) (n47 : id ≡ ack_id → ⊥) where
-    known_kind : kind ≤ rally
-    known_kind = leb-true kind rally (kind_known id kind [] n45 n47 ∙ sym (oks []) ∙ not-false ok may)
+of_its_kind : (kind : ℕ) (x : Plan) (ps : List Plan) → length ps ≡ length kinds → kind ≤ rally → IsPlanOf kind x ps
+    → plans_ranged (plan_among ps flight) (plan_among ps fence) (plan_among ps rally) ≡ true → PlanRanges kind x
+of_its_kind kind x (p ∷ q ∷ r ∷ []) three known of ranged = subst (PlanRanges kind) (sym (of known)) (plan_ranges p q r ranged kind known)
+of_its_kind kind x [] three known of ranged = absurd (omega arith)
+of_its_kind kind x (p ∷ []) three known of ranged = absurd (omega arith)
+of_its_kind kind x (p ∷ q ∷ []) three known of ranged = absurd (omega arith)
+of_its_kind kind x (p ∷ q ∷ r ∷ s ∷ ps) three known of ranged = absurd (omega arith)
 
-    plan_ranged_lem : (x p q r : Plan) → IsPlanOf kind x p q r → plans_ranged p q r ≡ true → PlanRanges kind x
-    plan_ranged_lem x p q r of ranged = subst (PlanRanges kind) (sym (of known_kind)) (plan_ranges p q r ranged kind known_kind)
-
-module _ (home : Bool) (p q r : Plan) (current : ℕ) (s : Store) (from : Station) (clock kind id : ℕ) (own : Bytes) (ok : Bool)
-    (oks : (payload : Bytes) → ok ≡ kind_ok kind (request_of (decode id payload))) where
-  abbrev plans : List Plan
-  plans = p ∷ q ∷ r ∷ []
-
-  abbrev Goal : (s' : Store) (b b' : Bytes) → Handled → Type 0
-  Goal = DoneBy (message_done words home plans current s from clock kind (request_of (decode id own)))
-
-  -- a kind that the message may not have
-  unsupported_kind : (b b' : Bytes) (said : Said) (h : Handled) → not ok ≡ true → Spoken (says (ack from unsupported kind 0)) b b' said
-      → h ≡ record { effect = Nothing; said = said } → Goal s b b' h
-  unfolding message_done
-  unsupported_kind b b' said h other spoken only =
-      let t : kind_ok kind (request_of (decode id own)) ≡ false = sym (oks own) ∙ not-true ok other in
-      rw (t, only) (record { handles = record { effect = refl; spoken = spoken }; store = refl })
-
-  module _ (may : not ok ≡ false) where
-    -- a kind that it may have: what its request does
-    allowed : (s' : Store) (b b' : Bytes) (h : Handled) → DoneBy (known_done words home plans current s from clock kind (request_of (decode id own))) s' b b' h → Goal s' b b' h
-    unfolding message_done
-    allowed s' b b' h done =
-        let t : kind_ok kind (request_of (decode id own)) ≡ true = sym (oks own) ∙ not-false ok may in
-        rw t done
-
-    by_request : (req : Request) (s' : Store) (b b' : Bytes) (h : Handled) → request_of (decode id own) ≡ req
-        → DoneBy (known_done words home plans current s from clock kind req) s' b b' h → Goal s' b b' h
-    by_request req s' b b' h is done = allowed s' b b' h (rw is done)
-
-    module _ (b b' : Bytes) (h : Handled) where
-      sets_current_lem : (m : SetCurrent) (n : ℕ) → id ≡ set_current_id → set_current_message m ≡ decode set_current_id own → n ≡ flown home m.seq
-          → Handles (choose_effect p n) (choose_answer p q r n) b b' h → Goal s b b' h
-      unfolding known_done
-      sets_current_lem m n e reads is handles =
-          by_request (chooses m.seq) s b b' h (rw e (ap request_of (sym reads))) (record { handles = rw (sym is) handles; store = refl })
-
-      clears_all : id ≡ clear_all_id → ((store : Store) → DoneBy (clear_done plans store from kind) store b b' h) → Goal s b b' h
-      unfolding known_done decode message_of
-      clears_all e done = by_request clears s b b' h (rw e) (done s)
-
-      turns_plan : (x : Plan) (s' : Store) → (id ≡ set_current_id → ⊥) → (id ≡ clear_all_id → ⊥) → x ≡ plan_among plans kind
-          → DoneBy (plan_done words home x current s from clock kind (request_of (decode id own))) s' b b' h → Goal s' b b' h
-      turns_plan x s' n41 n45 is done = allowed s' b b' h (rw (of_one_plan home plans current s from clock kind id own n41 n45, sym is) done)
-
-    acknowledged : (x : Plan) (b : Bytes) (h : Handled) (m : Ack) → id ≡ ack_id → ack_message m ≡ decode ack_id own → IsPlanOf kind x p q r
-        → ((home' : Bool) (p' q' r' : Plan) (current' : ℕ) (store : Store) (clock' : ℕ) (b₀ : Bytes) → IsPlanOf kind x p' q' r'
-        → DoneBy (known_done words home' (p' ∷ q' ∷ r' ∷ []) current' store from clock' kind (acknowledges m.result)) store b₀ b₀ h)
-        → Goal s b b h
-    acknowledged x b h m e reads of done = by_request (acknowledges m.result) s b b h (rw e (ap request_of (sym reads))) (done home p q r current s clock b of)
-
-pub returns-then-not-kind_ok : goal.returns-then-not-kind_ok
-returns-then-not-kind_ok c = search (unsupported_kind, rules)
+turns_plan : (home : Bool) (ps : List Plan) (current : ℕ) (s : Store) (from : Station) (clock kind id : ℕ) (own : Bytes) (x : Plan) (s' : Store) (b b' : Bytes) (h : Handled)
+    → kind_ok kind (request_of (decode id own)) ≡ true → (id ≡ set_current_id → ⊥) → (id ≡ clear_all_id → ⊥) → x ≡ plan_among ps kind
+    → DoneBy (plan_done words home x current s from clock kind (request_of (decode id own))) s' b b' h
+    → DoneBy (message_done words home ps current s from clock kind (request_of (decode id own))) s' b b' h
+unfolding message_done
+turns_plan home ps current s from clock kind id own x s' b b' h ok n41 n45 is done =
+    rw (ok, of_one_plan home ps current s from clock kind id own n41 n45, sym is) done
 
 pub clear-requires : goal.clear-requires
-clear-requires c = search (known_or_every, rules)
+clear-requires c = let ok = sym (c.kind_ok.ensures c.args.own.now) ∙ c.if-not-kind_ok.false in search (known_or_every, ok, rules)
 
 pub turn-requires : goal.turn-requires
-turn-requires c = let rest = c.in_default.in_default-own.rest in
+turn-requires c =
+    let rest = c.in_default.in_default-own.rest in
     let pre = c.requires in
-    let may = ap not c.if-not-kind_ok.false in
-    let n45 = rest.0.1 in
-    let n47 = rest.1 in
+    let three : length c.args.plans.now ≡ length kinds = search rules in
+    let ok = sym (c.kind_ok.ensures c.args.own.now) ∙ c.if-not-kind_ok.false in
+    let known = known_kind _ _ c.args.own.now ok rest.0.1 rest.1 in
     record {
-      kind_le_rally = (known_kind _ _ _ c.kind_ok.ensures may n45 n47, plan_ranged_lem _ _ _ c.kind_ok.ensures may n45 n47 _ _ _ _ pre.0 pre.1, pre.2, pre.3);
-      own_value = (pre.4, rest.0.0.1, n45, n47);
+      kind_le_rally = (known, of_its_kind _ _ c.args.plans.now three known pre.0 pre.1, pre.2, pre.3);
+      own_value = (pre.4, rest.0.0.1, rest.0.1, rest.1);
     }
 
 pub returns-in-41 : goal.returns-in-41
-returns-in-41 c = search (sets_current_lem, rules)
-
-pub returns-in-45 : goal.returns-in-45
-returns-in-45 c = search (clears_all, rules)
-
-pub returns-in-47 : goal.returns-in-47
-returns-in-47 c = search (acknowledged, rules)
+unfolding message_done known_done decode message_of
+returns-in-41 c = search rules
 
 pub returns-in_default : goal.returns-in_default
-returns-in_default c = let rest = c.in_default.in_default-own.rest in
-    let pre = c.requires in
-    let may = ap not c.if-not-kind_ok.false in
-    let n45 = rest.0.1 in
-    turns_plan _ _ _ _ _ _ _ _ _ _ _ _ c.kind_ok.ensures may _ _ _ _ _ rest.0.0.1 n45
-    (pre.0 (known_kind _ _ _ c.kind_ok.ensures may n45 rest.1)) c.turn.ensures
+returns-in_default c =
+    let rest = c.in_default.in_default-own.rest in
+    let ok = sym (c.kind_ok.ensures c.args.own.now) ∙ c.if-not-kind_ok.false in
+    turns_plan _ _ _ _ _ _ _ _ _ _ _ _ _ _ ok rest.0.0.1 rest.0.1 (c.requires.0 (known_kind _ _ c.args.own.now ok rest.0.1 rest.1)) c.turn.ensures

@@ -1,24 +1,8 @@
 -- COUNT is written with the plan's length and the number shown.
-use Prim.Native.Nat.{ℕ, ◌≤◌}
-use mathlib.Core.Path.{◌≡◌, sym}
-use lib.ListN.{length}
-use Rattle.rules.specs.Limits.{replied, reply_bytes_min}
-use Rattle.rules.specs.Payload.{Bytes}
-use Rattle.rules.specs.Messages.{station, count}
-use Rattle.rules.specs.Layouts.{count_id}
-use Rattle.plan.specs.declared.Plan.{Plan}
-use Rattle.reply.specs.Written.{Wrote}
-use Rattle.answers.specs.Answered.{Spoken, said, written_spoken}
-use Rattle.record_steps.specs.Shown.{number_of, list_answer}
 use borrow.Author.Rules.{rules}
+use Rattle.record_steps.specs.Shown.{list_answer}
 use Rattle.shown.proofs.list.Goals as goal
 
-listed : (p : Plan) (system component kind number : ℕ) (b b' : Bytes) (n : ℕ) → reply_bytes_min ≤ length b → number ≡ number_of p
-    → Wrote (count (station system component) p.len kind number) b b' n
-    → Spoken (list_answer p (station system component) kind) b b' (said replied count_id n)
-unfolding list_answer
-listed p system component kind number b b' n enough e w =
-    rw (sym e) (written_spoken (count (station system component) p.len kind number) b b' n enough w)
-
 pub returns : goal.returns
-returns c = search (listed, rules)
+unfolding list_answer
+returns c = search rules
