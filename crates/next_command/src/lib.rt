@@ -12,7 +12,8 @@ ghost use Rattle.places.specs.Forms.{words, items_in};
 ghost use Rattle.next_command.specs.Finding.{found_of};
 
 pub use find::{Found, Stand};
-use limits::JUMP_COUNTS;
+use limits::{JUMP_COUNTS, Kind};
+use places::Items;
 use plan::{Plan, flown};
 use plan_search::Flight;
 
@@ -40,10 +41,14 @@ pub fn next(
     ensures { found_of result ≡ search home max_followed (items_in words store.now plan.half flight plan.len) counts (rules.flown home (cond begun (current + 1) current)) }
 {
     let from = flown(home, start(current, begun));
+    let items = Items {
+        store,
+        kind: Kind::Flight,
+        half: plan.half,
+    };
     let plan = Flight {
         home,
-        store,
-        half: plan.half,
+        items,
         len: plan.len,
     };
     find::find(plan, counts, from)

@@ -1,14 +1,16 @@
 // The flight plan that a search goes over.
-ghost use Rattle.std.specs.Prelude.{◌≤◌, length};
-ghost use Rattle.rules.specs.Limits.{flight, size_of, store_words};
+ghost use Rattle.std.specs.Prelude.{◌≡◌, ◌≤◌};
+ghost use Rattle.rules.specs.Limits.{flight, size_of};
+ghost use Rattle.limits.specs.Kinds.{kind_number};
 
-// Whether item 0 may be home, and the plan: the store, the half of it that the plan stands in, and how many items it has.
+use places::Items;
+
+// Whether item 0 may be home, and the plan: the flight items in a half of the store, and how many of them it has.
 #[derive(Clone, Copy)]
 pub struct Flight<'a> {
     pub home: bool,
-    pub store: &'a [u32],
-    pub half: bool,
+    pub items: Items<'a>,
     pub len: u16,
-    ghost whole: { store_words ≤ length store.now },
+    ghost flown: { kind_number items.kind ≡ flight },
     ghost within: { len ≤ size_of flight },
 }

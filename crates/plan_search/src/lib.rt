@@ -9,7 +9,7 @@ ghost use Rattle.rules.specs.Limits.{flight, size_of};
 ghost use Rattle.rules.specs.Messages.{item_in};
 ghost use Rattle.rules.specs.NextCommand.{command_of, meets, search_from};
 ghost use Rattle.item.specs.Patterns.{patterns};
-ghost use Rattle.places.specs.Forms.{words, item_at};
+ghost use Rattle.places.specs.KindItems.{item_with};
 ghost use Rattle.plan_search.specs.PlanItems.{flight_items};
 ghost use Rattle.plan_search.specs.Orders.{command_for};
 ghost use Rattle.rule_laws.specs.Valid.{ServoFits};
@@ -67,9 +67,9 @@ impl Flight<'_> {
     #[tactic(auto, using(rule_laws::specs::Valid::valid_servo, rule_laws::specs::Valid::valid_jump, rule_laws::specs::Valid::target_below), unfolding(crate::specs::Meeting::look_as))]
     fn look_at(self, counts: [u16; JUMP_COUNTS], n: u16, j: u16) -> Option<Met>
         requires { n < self.len }
-        ensures { result ≡ look_as self.entry.home self.entry.len counts n j (item_in (item_at words self.entry.store.now self.entry.half flight n)) }
+        ensures { result ≡ look_as self.entry.home self.entry.len counts n j (item_in (item_with self.entry.items n)) }
     {
-        let item = storage::fetch(self.store, FLIGHT, self.half, n);
+        let item = storage::fetch(self.items, n);
         if item_rules::verdict(self.home, item, FLIGHT, self.len, n, j).is_err() {
             return Some(Met::Ends(Command::Stuck));
         }
@@ -96,7 +96,7 @@ impl Flight<'_> {
         requires { n ≤ size_of flight }
         ensures { result ≡ met_for (search_from self.entry.home (flight_items self.entry) counts n) }
     {
-        let before = places::jumps(self.store, FLIGHT, self.half, n);
+        let before = self.items.jumps(n);
         self.scan(counts, n, before)
     }
 }

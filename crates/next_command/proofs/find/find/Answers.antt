@@ -6,12 +6,11 @@ use mathlib.Core.Path.{◌≡◌, sym, ap, subst, ◌∙◌}
 use mathlib.Core.List.{List}
 use mathlib.Core.Bool.{Bool}
 use lib.ListN.{length, take, drop}
-use Rattle.rules.specs.Limits.{flight, max_followed}
+use Rattle.rules.specs.Limits.{max_followed}
 use Rattle.rules.specs.Items.{jumps_among}
 use Rattle.rules.specs.NextCommand.{search_from}
 use Rattle.rules.specs.NextCommand as rules
-use Rattle.places.specs.Forms.{words, length_items}
-use Rattle.plan_search.specs.PlanItems.{flight_items}
+use Rattle.plan_search.specs.PlanItems.{flight_items, items_long}
 use Rattle.plan_search.specs.declared.flight.Flight.{Flight}
 use Rattle.plan_search.specs.declared.Met.{Met}
 use Rattle.plan_search.specs.declared.Met.TheVariants.{Follows}
@@ -23,7 +22,7 @@ use Rattle.next_command.proofs.find.find.Goals as goal
 module _ (p : Flight) (runs : List ℕ) (n : ℕ) (met : Met) (meets : met ≡ met_for (search_from p.home (flight_items p) runs n)) where
   followed : (j target : ℕ) (up : Bool) → met ≡ Follows j target up → Followed p.len runs j target up
   followed j target up em =
-      subst (λ (size : ℕ). Followed size runs j target up) (length_items words p.store.now p.half flight p.len)
+      subst (λ (size : ℕ). Followed size runs j target up) (items_long p.items p.len)
       (follows_known p.home (length (flight_items p)) runs (drop n (flight_items p)) n (jumps_among (take n (flight_items p))) (sym meets ∙ em))
 
   module _ (all : rules.Found) (k : ℕ) (is : all ≡ rules.search p.home (max_followed - k) (flight_items p) runs n) where
