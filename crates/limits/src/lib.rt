@@ -50,32 +50,8 @@ impl TryFrom<u8> for Kind {
     }
 }
 
-// The results of an ACK.
+// The result of an ACK that accepts.
 pub const ACCEPTED: u8 = 0;
-
-pub const UNSUPPORTED_FRAME: u8 = 2;
-
-pub const UNSUPPORTED: u8 = 3;
-
-pub const NO_SPACE: u8 = 4;
-
-pub const INVALID: u8 = 5;
-
-pub const INVALID_PARAM1: u8 = 6;
-
-pub const INVALID_PARAM2: u8 = 7;
-
-pub const INVALID_X: u8 = 10;
-
-pub const INVALID_Y: u8 = 11;
-
-pub const INVALID_Z: u8 = 12;
-
-pub const INVALID_SEQUENCE: u8 = 13;
-
-pub const DENIED: u8 = 14;
-
-pub const CANCELLED: u8 = 15;
 
 // Why an ACK does not accept: the result that it says.
 #[derive(Clone, Copy, PartialEq, Eq)]
@@ -121,12 +97,8 @@ impl Refusal {
     }
 }
 
-// Outcomes: no reply; a store that is too short; a state that has a number out of its range.
+// The outcome of a call that neither replies nor is refused.
 pub const NO_REPLY: u8 = 1;
-
-pub const SHORT_STORE: u8 = 14;
-
-pub const OUT_OF_RANGE: u8 = 15;
 
 // The flight commands that other rules name.
 pub const WAYPOINT: u16 = 16;

@@ -2,7 +2,7 @@
 // kind are those of the place.
 #![tactic(auto)]
 
-ghost use Rattle.std.specs.Prelude.{◌≡◌, ℕ, ◌+◌, ◌-◌, ◌≤◌, ◌<◌, length, get_or};
+ghost use Rattle.std.specs.Prelude.{◌≡◌, ℕ, ◌+◌, ◌*◌, ◌-◌, ◌≤◌, ◌<◌, length, get_or};
 ghost use Rattle.rules.specs.Limits.{size_of, item_words, store_words, clock_values};
 ghost use Rattle.rules.specs.Messages.{item_in};
 ghost use Rattle.rules.specs.Words.{words_of, item_of_words, last_word_of};
@@ -17,7 +17,7 @@ ghost use Rattle.storage.specs.Kept.{at_place};
 
 use item::Item;
 use limits::{AUTOCONTINUE_UNIT, FRAME_UNIT, ITEM_WORDS, Kind};
-use places::{Items, place_at, put_item};
+use places::{Items, item_place, place_at, put_item};
 
 const BYTE_VALUES: u32 = 0x100;
 
@@ -49,15 +49,13 @@ pub fn from_words(stored: [u32; ITEM_WORDS], kind: u8, seq: u16) -> Item
     )
 }
 
-// The eight words from `at`, each below 2^32.
-fn words_at(store: &[u32], at: usize) -> [u32; ITEM_WORDS]
-    requires { at + item_words ≤ length store.now }
-    ensures there { result ≡ part store.now at item_words }
+// The eight words of an item place, each below 2^32.
+fn words_at(store: &[u32], place: u32) -> [u32; ITEM_WORDS]
+    requires { place * item_words + item_words ≤ length store.now }
+    ensures there { result ≡ part store.now (place * item_words) item_words }
     ensures small { (i : ℕ) → get_or result i 0 < clock_values }
 {
-    let mut stored = [0; ITEM_WORDS];
-    stored.copy_from_slice(&store[at..at + ITEM_WORDS]);
-    stored
+    store.as_chunks::<ITEM_WORDS>().0[place as usize]
 }
 
 // The item with a number.
@@ -65,7 +63,7 @@ pub fn fetch(items: Items<'_>, n: u16) -> Item
     requires { n < size_of (kind_number items.kind) }
     ensures { result ≡ item_for (item_in (item_with items.entry n)) }
 {
-    let stored = words_at(items.store, place_at(items.kind, items.half, n));
+    let stored = words_at(items.store, item_place(items.kind, items.half, n));
     from_words(stored, items.kind.number(), n)
 }
 
