@@ -1,3 +1,2 @@
 -- Laws that serve the proofs of several functions.
 mod Requests
-mod Covering

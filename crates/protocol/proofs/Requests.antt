@@ -1,9 +1,9 @@
--- What a message asks by its id: which kinds it may have, which id is left where the others are excluded, and which messages speak of one plan. Each goes down
+-- What a message asks by its id: which kinds it may have, which messages speak of one plan, and that an ACK is not answered. Each goes down
 -- the rules' chain of ids.
 use Prim.Native.Nat.{ℕ, ◌≤◌}
-use mathlib.Core.Path.{◌≡◌, refl, sym, ◌∙◌}
+use mathlib.Core.Path.{◌≡◌, refl, ◌∙◌}
 use mathlib.Core.List.{List}
-use mathlib.Core.Bool.{Bool, true, false, true≢false, not, cond, ◌&&◌}
+use mathlib.Core.Bool.{Bool, true, false, not, cond, ◌&&◌}
 use lib.Dec.{eqb}
 use borrow.Author.Tests.{eqb-true, leb-true}
 use Rattle.rules.specs.Payload.{Bytes}
@@ -12,7 +12,6 @@ use Rattle.rules.specs.Messages.{Station, Message, message_of, decode}
 use Rattle.rule_laws.specs.Tests.{either}
 use Rattle.rules.specs.Calls.{is_known}
 use Rattle.rules.specs.Step.{kind_ok}
-use Rattle.message_table.specs.Table.{is_read}
 use Rattle.places.specs.Forms.{Store, words}
 use Rattle.plan.specs.declared.Plan.{Plan}
 use Rattle.refusal.specs.Refusals.{request_of}
@@ -38,26 +37,6 @@ kind_known id kind p n45 n47 =
   where
     P : Message → Type 0
     P m = is_known kind ≡ kind_ok kind (request_of m)
-
--- a message that is read here and is none of the others is ITEM_INT
-pub item_left : (id : ℕ) (p : Bytes) → is_read (decode id p) ≡ true
-    → (id ≡ partial_list_id → ⊥) → (id ≡ set_current_id → ⊥) → (id ≡ request_list_id → ⊥) → (id ≡ count_id → ⊥) → (id ≡ clear_all_id → ⊥) → (id ≡ ack_id → ⊥) → (id ≡ request_int_id → ⊥)
-    → id ≡ item_int_id
-unfolding decode message_of
-item_left id p read n38 n41 n43 n44 n45 n47 n51 =
-    either P (eqb id partial_list_id) (λ e r. absurd (n38 (eqb-true id partial_list_id e))) (λ e.
-    either P (eqb id set_current_id) (λ e r. absurd (n41 (eqb-true id set_current_id e))) (λ e.
-    either P (eqb id current_id) (λ e r. absurd (true≢false (sym r))) (λ e.
-    either P (eqb id request_list_id) (λ e r. absurd (n43 (eqb-true id request_list_id e))) (λ e.
-    either P (eqb id count_id) (λ e r. absurd (n44 (eqb-true id count_id e))) (λ e.
-    either P (eqb id clear_all_id) (λ e r. absurd (n45 (eqb-true id clear_all_id e))) (λ e.
-    either P (eqb id ack_id) (λ e r. absurd (n47 (eqb-true id ack_id e))) (λ e.
-    either P (eqb id request_int_id) (λ e r. absurd (n51 (eqb-true id request_int_id e))) (λ e.
-    either P (eqb id item_int_id) (λ e r. eqb-true id item_int_id e) (λ e.
-    either P (eqb id statustext_id) (λ e r. absurd (true≢false (sym r))) (λ e r. absurd (true≢false (sym r)))))))))))) read
-  where
-    P : Message → Type 0
-    P m = is_read m ≡ true → id ≡ item_int_id
 
 -- every message but SET_CURRENT and CLEAR_ALL speaks of the plan of its kind
 pub of_one_plan : (home : Bool) (ps : List Plan) (current : ℕ) (s : Store) (from : Station) (now kind id : ℕ) (p : Bytes) → (id ≡ set_current_id → ⊥) → (id ≡ clear_all_id → ⊥)

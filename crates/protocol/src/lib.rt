@@ -36,7 +36,7 @@ use wire::{
 };
 
 // Whether a message of an id may have a kind: 255 only in CLEAR_ALL, and an ACK never gets a reply, whatever its kind.
-#[tactic(auto, using(crate::proofs::Requests::kind_known), unfolding(rules::specs::Messages::decode, rules::specs::Messages::message_of, rules::specs::Step::kind_ok))]
+#[tactic(auto, unfolding(rules::specs::Messages::decode, rules::specs::Messages::message_of, rules::specs::Step::kind_ok))]
 fn kind_ok(id: u32, kind: u8) -> bool
     ensures { (p : Bytes) → result ≡ kind_ok kind (request_of (decode id p)) }
 {

@@ -1,8 +1,9 @@
 -- A number's decimal digits, made from the last to the first.
-use Rattle.std.specs.Prelude.{ℕ, zero, suc, ◌+◌, ◌-◌, ◌*◌, ◌/◌, ◌%◌, ◌^◌, ◌<◌, ◌≤◌, ◌≡◌, List, [], ◌∷◌, ◌++◌, length, set, take, drop, get_or}
-use Rattle.std.proofs.Common.{ap, ◌∙◌, append_assoc, div-lt_iff_lt-mul, add-one, arith, length-set, length-drop, drop-cons, drop-set-lt, get_or-set_same, take_all, take-suc-set, lt-ltb, le-ltb}
+use Rattle.std.specs.Prelude.{false, ℕ, zero, suc, ◌+◌, ◌*◌, ◌/◌, ◌%◌, ◌^◌, ◌<◌, ◌≤◌, ◌≡◌, List, [], ◌∷◌, ◌++◌, length, set, take, get_or}
+use Rattle.std.proofs.Common.{ap, ◌∙◌, append_assoc, append-nil, div-lt_iff_lt-mul, arith, length-set, take-suc-set, lt-ltb, le-ltb, eq-eqb, ne_eqb, sym}
 use Rattle.std.proofs.Math.Nat.{pow-succ'}
 use Rattle.std.proofs.Math.Decide.{dec_le}
+use Rattle.std.specs.Fmt.{digits_onto, digit_glyph, digits, decimal as Fmt·decimal}
 use Rattle.adding.specs.Added.{Filled, Adds, each}
 use Rattle.adding.specs.Laws.{adds_nothing, each_front, each_both}
 use Rattle.text.specs.Digits.{digit, decimal_in, decimal, two_digits, hex}
@@ -27,44 +28,36 @@ more_digits : (n : ℕ) → 9 < n → decimal n ≡ decimal (n / 10) ++ (digit (
 unfolding decimal_in
 more_digits n h = rw (le-ltb n 10 (omega arith)) (ap (λ (l : List ℕ). l ++ (digit (n % 10) ∷ [])) (enough n (suc (n / 10)) (n / 10) (omega arith) (omega arith)))
 
--- a digit put before others
-put_before : (ds : List ℕ) (first d : ℕ) → first < length ds → drop first (set ds first d) ≡ d ∷ drop (first + 1) ds
-put_before ds first d h =
-    drop-cons (set ds first d) first 0 (omega (arith, length-set ds first d))
-    ∙ rw (get_or-set_same ds first d 0 h, drop-set-lt (suc first) ds first d (omega arith), add-one)
+fewer_left : (n k : ℕ) → n < 10 ^ suc k → n / 10 < 10 ^ k
+fewer_left n k fits = (div-lt_iff_lt-mul {k = 10} (omega arith)).1 (omega (arith, fits, pow-succ' 10 k))
 
--- there is room for the digits that are left
-pub room_left : (left first : ℕ) → 9 < left → left < 10 ^ (first + 1) → 0 < first
-room_left left zero more fits = absurd (omega arith)
-room_left left (suc first) more fits = omega arith
+some_left : (k n : ℕ) → 0 < n → n < 10 ^ k → 0 < k
+some_left zero n more fits = absurd (omega arith)
+some_left (suc k) n more fits = omega arith
 
-fewer_left : (left first : ℕ) → left < 10 ^ (first + 1) → left / 10 < 10 ^ first
-fewer_left left first fits =
-    let above : left < 10 ^ suc first = rw add-one at fits in
-    (div-lt_iff_lt-mul {k = 10} (omega arith)).1 (omega (arith, above, pow-succ' 10 first))
+-- the library's digits, which are made from the last to the first
+same_digit : (d : ℕ) → d < 10 → digit_glyph false d ≡ digit d
+unfolding digit
+same_digit d h = rw (lt-ltb d 10 h)
 
-module _ (n left first d size : ℕ) (ds : List ℕ) (h : first < size) (long : length ds ≡ size) (so_far : decimal n ≡ decimal left ++ drop (first + 1) ds) where
-  -- while there is more than one digit left
-  pub digit_made
-      : 9 < left
-      → left < 10 ^ (first + 1)
-      → d ≡ digit (left % 10)
-      → (first - 1 < size) × (length (set ds first d) ≡ size) × (left / 10 < 10 ^ (first - 1 + 1)) × (decimal n ≡ decimal (left / 10) ++ drop (first - 1 + 1) (set ds first d))
-  digit_made more fits is =
-      let room : 0 < first = room_left left first more fits in
-      let back : first - 1 + 1 ≡ first = omega arith in
-      let next : decimal n ≡ decimal (left / 10) ++ drop first (set ds first d) =
-      so_far
-      ∙ rw (more_digits left more, put_before ds first d (omega arith), is) (append_assoc (decimal (left / 10)) (digit (left % 10) ∷ []) (drop (first + 1) ds)) in
-      (omega arith, length-set ds first d ∙ long, rw back (fewer_left left first fits), rw back next)
+made : (k n : ℕ) (behind : List ℕ) → n < 10 ^ k → 0 < k → digits_onto k 10 false n behind ≡ decimal n ++ behind
+made zero n behind fits some = absurd (omega arith)
+made (suc k) n behind fits some = go (dec_le 10 n) (made k (n / 10) (digit (n % 10) ∷ behind))
+  where
+    go : Dec (10 ≤ n)
+        → (n / 10 < 10 ^ k → 0 < k → digits_onto k 10 false (n / 10) (digit (n % 10) ∷ behind) ≡ decimal (n / 10) ++ (digit (n % 10) ∷ behind))
+        → digits_onto (suc k) 10 false n behind ≡ decimal n ++ behind
+    go (yes ten) fewer =
+        let left : n / 10 < 10 ^ k = fewer_left n k fits in
+        rw (ne_eqb (n / 10) 0 (λ e. omega (arith, e)), same_digit (n % 10) (omega arith), more_digits n (omega arith))
+        (fewer left (some_left k (n / 10) (omega arith) left) ∙ sym (append_assoc (decimal (n / 10)) (digit (n % 10) ∷ []) behind))
+    go (no few) fewer =
+        let last : n % 10 ≡ n = omega arith in
+        rw (eq-eqb (n / 10) 0 (omega arith), last, same_digit n (omega arith), one_digit n (omega arith))
 
-  -- the first of all
-  pub digits_put
-      : (before after : Filled) → left ≤ 9 → d ≡ digit left → Adds (take (size - first) (drop first (set ds first d))) before after → Adds (decimal n) before after
-  digits_put before after one is adds =
-      let all : take (size - first) (drop first (set ds first d)) ≡ drop first (set ds first d) = take_all (size - first) _ (omega (arith, length-drop first (set ds first d), length-set ds first d)) in
-      let whole : drop first (set ds first d) ≡ decimal n = rw (put_before ds first d (omega arith), so_far, one_digit left one, is) in
-      rw (all ∙ whole) at adds
+pub same_decimal : (n : ℕ) → n < 2 ^ 64 → Fmt·decimal n ≡ decimal n
+unfolding digits
+same_decimal n fits = made 64 n [] (omega arith) (omega arith) ∙ append-nil (decimal n)
 
 -- a byte's two digits, behind those of the bytes before it
 pub hex_made

@@ -5,9 +5,6 @@ ghost use Rattle.text.specs.Digits.{digit as Digits·digit, decimal, after_space
 
 use adding::Text;
 
-// No number of 64 bits has more decimal digits.
-const MOST_DIGITS: usize = 20;
-
 // How many bytes' digits are made at once.
 const FEW: usize = 32;
 
@@ -42,20 +39,11 @@ fn digit(n: u8) -> u8
     if n < 10 { 48 + n } else { 55 + n }
 }
 
-// A number in decimal digits, which are made from the last to the first.
+// A number in decimal digits.
 pub fn put_number(text: &mut Text, n: u64)
     ensures { Adds (decimal n) text.old text.new }
 {
-    let mut digits = [0u8; MOST_DIGITS];
-    let mut first = MOST_DIGITS - 1;
-    let mut left = n;
-    while 9 < left {
-        digits[first] = digit((left % 10) as u8);
-        first -= 1;
-        left = left / 10;
-    }
-    digits[first] = digit(left as u8);
-    text.put(&digits[first..]);
+    text.put(itoa::Buffer::new().format(n).as_bytes());
 }
 
 fn put_after_space(text: &mut Text, n: u64)
