@@ -2,12 +2,11 @@
 // kind are those of the place.
 #![tactic(auto)]
 
-ghost use Rattle.std.specs.Prelude.{◌≡◌, ◌+◌, ◌-◌, ◌≤◌, ◌<◌, length};
-ghost use Rattle.rules.specs.Limits.{rally, size_of, item_words, store_words};
+ghost use Rattle.std.specs.Prelude.{◌≡◌, ◌-◌, ◌≤◌, ◌<◌, length};
+ghost use Rattle.rules.specs.Limits.{rally, size_of, store_words};
 ghost use Rattle.rules.specs.Messages.{item_in};
 ghost use Rattle.rules.specs.Words.{words_of, item_of_words, last_word_of};
 ghost use Rattle.item.specs.Patterns.{item_for, patterns};
-ghost use Rattle.places.specs.Part.{part};
 ghost use Rattle.places.specs.Forms.{words, item_at};
 ghost use Rattle.places.specs.Writes.{put_at};
 ghost use Rattle.places.specs.Carried.{carried_at, carried};
@@ -15,7 +14,7 @@ ghost use Rattle.storage.specs.Kept.{at_place};
 
 use item::Item;
 use limits::{AUTOCONTINUE_UNIT, FRAME_UNIT, ITEM_WORDS};
-use places::{place_at, put_item};
+use places::{item_place, place_at, put_item};
 
 const BYTE_VALUES: u32 = 0x100;
 
@@ -47,22 +46,13 @@ pub fn from_words(stored: [u32; ITEM_WORDS], kind: u8, seq: u16) -> Item
     )
 }
 
-// The eight words from `at`.
-fn words_at(store: &[u32], at: usize) -> [u32; ITEM_WORDS]
-    requires { at + item_words ≤ length store.now }
-    ensures { result ≡ part store.now at item_words }
-{
-    let mut stored = [0; ITEM_WORDS];
-    stored.copy_from_slice(&store[at..at + ITEM_WORDS]);
-    stored
-}
-
 // The item with a number.
 pub fn fetch(store: &[u32], kind: u8, half: bool, n: u16) -> Item
     requires { (store_words ≤ length store.now) × (kind ≤ rally) × (n < size_of kind) }
     ensures { result ≡ item_for (item_in (item_at words store.now half kind n)) }
 {
-    from_words(words_at(store, place_at(kind, half, n)), kind, n)
+    let items = store.as_chunks::<ITEM_WORDS>().0;
+    from_words(items[item_place(kind, half, n) as usize], kind, n)
 }
 
 // The item becomes the one with a number, and is fetched from there as it was kept, with the number and the kind of the place; every other word of the store stays.

@@ -1,13 +1,14 @@
 -- Laws of trimming: bytes by those that end them.
-use Prim.Native.Nat.{ℕ, suc, ◌+◌, ◌-◌, ◌<◌, ◌≤◌, max}
+use Prim.Native.Nat.{ℕ, suc, ◌+◌, ◌<◌, ◌≤◌, min, max}
 use mathlib.Core.Path.{◌≡◌, refl, ap, sym, ◌∙◌}
 use mathlib.Core.List.{[], ◌∷◌, ◌++◌}
 use mathlib.Core.Bool.{Bool, true, false, cond}
 use native.Mathlib.Nat.{zero-add}
 use native.Mathlib.Omega.{arith}
 use lib.Dec.{eqb}
-use lib.ListN.{length, get_or, take, drop, length-take}
-use lib.Seq.{take-add, drop-cons, length-take-le, paste}
+use lib.ListN.{length, get_or, take, drop, length-take, length-drop}
+use lib.Seq.{take-add, drop-cons, length-take-le, paste, get_or-drop}
+use Rattle.std.proofs.lemmas.List.{take-append-drop}
 use borrow.Author.Tests.{ne_eqb}
 use Rattle.rules.specs.Payload.{Bytes, significant, trim}
 
@@ -63,51 +64,36 @@ byte_other : (bs : Bytes) (at : ℕ) → at < length bs → (get_or bs at 0 ≡ 
 unfolding significant
 byte_other bs at h e = ap significant (byte_window bs at h) ∙ rw (ne_eqb (get_or bs at 0) 0 e)
 
--- the first n bytes, by the last of them
+-- bytes that are all zeros
+all_zeros : (bs : Bytes) → ((k : ℕ) → k < length bs → get_or bs k 0 ≡ 0) → significant bs ≡ 0
+unfolding significant
+all_zeros [] zeros = refl
+all_zeros (b ∷ bs) zeros =
+    let first : b ≡ 0 = zeros 0 (omega arith) in
+    let rest : significant bs ≡ 0 = all_zeros bs (λ k below. zeros (suc k) (omega arith)) in
+    rw (first, rest)
 
-pub last_zero : (bs : Bytes) (n : ℕ) → 0 < n → n ≤ length bs → get_or bs (n - 1) 0 ≡ 0 → significant (take n bs) ≡ significant (take (n - 1) bs)
-last_zero bs n pos h e =
-    let back : n - 1 + 1 ≡ n = omega arith in
-    ap (λ (k : ℕ). significant (take k bs)) (sym back) ∙ window_zero bs (n - 1) 1 (byte_zero bs (n - 1) (omega arith) e)
-
-last_other : (bs : Bytes) (n : ℕ) → 0 < n → n ≤ length bs → (get_or bs (n - 1) 0 ≡ 0 → ⊥) → significant (take n bs) ≡ n
-last_other bs n pos h e =
-    let back : n - 1 + 1 ≡ n = omega arith in
-    let one : significant (take 1 (drop (n - 1) bs)) ≡ 1 = byte_other bs (n - 1) (omega arith) e in
-    ap (λ (k : ℕ). significant (take k bs)) (sym back) ∙ window_other bs (n - 1) 1 (omega arith) (omega arith) ∙ omega arith
-
--- the trimmed length, where the first n bytes have all that is significant
+-- the trimmed length, where the last byte that is not zero stands at a place, and where there is none
 
 trimmed : (bs : Bytes) (n : ℕ) → n ≤ length bs → max 1 (significant bs) ≡ n → n ≡ length (trim bs)
 unfolding trim
 trimmed bs n h e = rw e (sym (length-take-le n bs h))
 
-pub trimmed_other : (bs : Bytes) (n : ℕ) → 0 < n → n ≤ length bs → significant (take n bs) ≡ significant bs → (get_or bs (n - 1) 0 ≡ 0 → ⊥) → n ≡ length (trim bs)
-trimmed_other bs n pos h all e = trimmed bs n h (omega (arith, last_other bs n pos h e))
+pub trimmed_other :
+    (bs : Bytes) (last : ℕ) → last < length bs → (get_or bs last 0 ≡ 0 → ⊥) → ((k : ℕ) → last < k → k < length bs → get_or bs k 0 ≡ 0)
+    → last + 1 ≡ length (trim bs)
+trimmed_other bs last short other zeros =
+    let here : significant (take (last + 1) bs) ≡ last + significant (take 1 (drop last bs)) =
+    window_other bs last 1 (omega arith) (omega (arith, byte_other bs last short other)) in
+    let end : significant (drop (last + 1) bs) ≡ 0 =
+    all_zeros (drop (last + 1) bs) (λ k below. get_or-drop (last + 1) bs k 0 ∙ zeros (last + 1 + k) (omega arith) (omega (arith, length-drop (last + 1) bs))) in
+    let whole : significant bs ≡ significant (take (last + 1) bs) =
+    ap significant (sym (take-append-drop (last + 1) bs)) ∙ zeros_end (take (last + 1) bs) (drop (last + 1) bs) end in
+    trimmed bs (last + 1) (omega arith) (omega (arith, here, whole, byte_other bs last short other))
 
-pub trimmed_one : (bs : Bytes) (n : ℕ) → n ≡ 1 → n ≤ length bs → significant (take n bs) ≡ significant bs → n ≡ length (trim bs)
-trimmed_one bs n one h all = trimmed bs n h (omega (arith, significant_at_most (take n bs), length-take-le n bs h))
-
-pub trimmed_none : (bs : Bytes) (n : ℕ) → n ≡ 0 → n ≡ length bs → n ≡ length (trim bs)
+pub trimmed_none : (bs : Bytes) → ((k : ℕ) → k < length bs → get_or bs k 0 ≡ 0) → min (length bs) 1 ≡ length (trim bs)
 unfolding trim
-trimmed_none bs n none all = omega (arith, length-take (max 1 (significant bs)) bs)
-
--- and where z of the last w of them are zeros that end them: fewer than all of these w, or all
-
-pub trimmed_window :
-    (bs : Bytes) (n w z : ℕ) → w ≤ n → n ≤ length bs → significant (take n bs) ≡ significant bs → z + significant (take w (drop (n - w) bs)) ≡ w → z < w → n - z ≡ length (trim bs)
-trimmed_window bs n w z some h all count fewer =
-    let back : n - w + w ≡ n = omega arith in
-    let most : significant (take n bs) ≡ n - z =
-    ap (λ (k : ℕ). significant (take k bs)) (sym back) ∙ window_other bs (n - w) w (omega arith) (omega arith) ∙ omega arith in
-    trimmed bs (n - z) (omega arith) (omega arith)
-
-pub window_passed :
-    (bs : Bytes) (n w z : ℕ) → w ≤ n → significant (take n bs) ≡ significant bs → z + significant (take w (drop (n - w) bs)) ≡ w → w ≤ z
-    → significant (take (n - w) bs) ≡ significant bs
-window_passed bs n w z some all count full =
-    let back : n - w + w ≡ n = omega arith in
-    sym (window_zero bs (n - w) w (omega arith)) ∙ ap (λ (k : ℕ). significant (take k bs)) back ∙ all
+trimmed_none bs zeros = let none : significant bs ≡ 0 = all_zeros bs zeros in omega (arith, length-take (max 1 (significant bs)) bs)
 
 -- where a message has bytes at all, its trimmed bytes are its first ones
 pub trim_front : (bs : Bytes) → 0 < length bs → (length (trim bs) ≤ length bs) × (take (length (trim bs)) bs ≡ trim bs)

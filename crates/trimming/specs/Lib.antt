@@ -1,2 +1,3 @@
 -- What the contract of trimming cites beside the rules.
 pub mod Written
+pub mod Last

@@ -1,49 +1,30 @@
 // Trimming: "Written payloads drop trailing zero bytes but keep at least one".
 #![tactic(auto)]
 
-ghost use Rattle.std.specs.Prelude.{◌≡◌, ◌+◌, ◌<◌, ◌≤◌, length, take, drop};
-ghost use Rattle.rules.specs.Payload.{significant, trim};
+ghost use Rattle.std.specs.Prelude.{◌≡◌, ◌+◌, ◌<◌, ◌≤◌, length};
+ghost use Rattle.rules.specs.Payload.{trim};
 ghost use Rattle.rules.specs.Layouts.{layout_of};
+ghost use Rattle.trimming.specs.Last.{LastOther};
 ghost use Rattle.trimming.specs.Written.{Written};
 
-use copying::copy_front;
-use fields::u64_at;
+use copying::copy;
 use message_table::full_of;
 
-// How many zeros end eight bytes: as many as there are whole bytes of leading zeros in their number.
-fn zeros_ending(bytes: &[u8], at: usize) -> usize
-    requires { at + 8 ≤ length bytes.now }
-    ensures { result + significant (take 8 (drop at bytes.now)) ≡ 8 }
+// The place of the last byte that is not zero.
+fn last_other(bytes: &[u8]) -> Option<usize>
+    ensures { LastOther bytes.now result }
 {
-    (u64::leading_zeros(u64_at(bytes, at)) / 8) as usize
+    bytes.iter().rposition(|b| *b != 0)
 }
 
-// The length of bytes without trailing zeros, at least one where there are any: looked for from the end, up to the first byte that is not zero. The last byte is
-// looked at before all else; then the steps are of one byte until steps of eight lead to the first byte, which stays.
+// The length of bytes without trailing zeros, at least one where there are any.
 pub fn trimmed_len(bytes: &[u8]) -> usize
     ensures { result ≡ length (trim bytes.now) }
 {
-    let mut n = bytes.len();
-    if n == 0 {
-        return n;
+    match last_other(bytes) {
+        Some(last) => last + 1,
+        None => bytes.len().min(1),
     }
-    if bytes[n - 1] != 0 {
-        return n;
-    }
-    while n % 8 != 1 {
-        if bytes[n - 1] != 0 {
-            return n;
-        }
-        n -= 1;
-    }
-    while 1 < n {
-        let zeros = zeros_ending(bytes, n - 8);
-        if zeros < 8 {
-            return n - zeros;
-        }
-        n -= 8;
-    }
-    n
 }
 
 // Writes the bytes of a message of this id, trimmed, and answers how many. The rest of out stays; all of it if it is shorter than the
@@ -58,6 +39,6 @@ pub fn write_trimmed(id: u32, bytes: &[u8], out: &mut [u8]) -> usize
         return 0;
     }
     let n = trimmed_len(bytes);
-    copy_front(bytes, n, out);
+    copy(bytes, n, out, 0);
     n
 }

@@ -1,2 +1,0 @@
--- What the contracts of copying cite.
-pub mod Blocks
