@@ -44,11 +44,11 @@ fn tell(slot: &mut [u8], served: &Served, reply: &[u8]) {
 pub extern "C" fn douzanelh_replay(calls: &[u8], store: &mut [u32], told: &mut [u8]) -> u64 {
     let mut reply = [0u8; REPLY_ARRAY];
     let mut state = service::fresh(false);
-    let mut slots = told.chunks_exact_mut(SLOT);
+    let answers = told.as_chunks_mut::<SLOT>().0;
     let mut sum: u64 = 0;
-    for slot in calls.as_chunks::<SLOT>().0 {
+    for (i, slot) in calls.as_chunks::<SLOT>().0.iter().enumerate() {
         let served = call(state, slot, store, &mut reply);
-        if let Some(answer) = slots.next() {
+        if let Some(answer) = answers.get_mut(i) {
             tell(answer, &served, &reply);
         }
         sum = sum.wrapping_add(total(&served));
