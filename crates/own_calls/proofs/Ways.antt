@@ -1,11 +1,10 @@
 -- What the ways of a timer call and of "command done" need and give, over plain variables: a refused call's promise; and of any other the facts that its handler asks for, and the
 -- promise by the handler's effect.
 use Prim.Native.Nat.{ℕ, ◌+◌, ◌≤◌, ◌<◌}
-use native.Mathlib.Omega.{arith}
 use mathlib.Core.Path.{◌≡◌, refl, sym, ap, subst, ◌∙◌}
-use mathlib.Core.List.{List, [], ◌∷◌, map}
-use mathlib.Core.Bool.{Bool, true, false, cond}
-use lib.ListN.{length, length-map}
+use mathlib.Core.List.{[]}
+use mathlib.Core.Bool.{Bool, true, cond}
+use lib.ListN.{length}
 use lib.Dec.{ltb}
 use borrow.Author.Tests.{le-leb}
 use Rattle.rules.specs.Limits.{flight, fence, rally, kinds, size_of, store_words, reply_bytes_min, max_followed, max_repeats, expiry_ms}

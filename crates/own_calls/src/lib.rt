@@ -127,9 +127,10 @@ pub fn advance(mut state: State, store: &[u32]) -> Advanced
         state.counts,
     );
     if let Some(stand) = found.stand {
+        let runs = stand.counts;
         state.current = stand.n;
         state.begun = true;
-        state.counts = stand.counts;
+        state.counts = runs;
     }
     Advanced {
         state,
