@@ -64,7 +64,7 @@ impl Running {
     }
 
     // An item from a station: Ok where it is valid and the next; otherwise what it does, which leaves the store as it is.
-    #[tactic(auto, using(crate::proofs::Faults::not_accepted, crate::proofs::Faults::is_accepted, upload::specs::Faults::named_as), unfolding(crate::specs::Judging::judged_as))]
+    #[tactic(auto, using(crate::proofs::Faults::is_accepted), unfolding(crate::specs::Judging::judged_as))]
     fn judge(self, home: bool, store: &[u32], from: Station, item: Item) -> Result<(), Turned>
         requires { store_words ≤ length store.now }
         ensures { result ≡ judged_as home store.now (kind_number self.kind) self.plan self.run (station from.system from.component) (patterns item) }
@@ -133,7 +133,6 @@ impl Running {
     }
 
     // The upload's last item is in the store: the plan is replaced, or the whole is refused.
-    #[tactic(auto, using(crate::proofs::Faults::not_accepted, crate::proofs::Faults::is_accepted, upload::specs::Faults::named_as), unfolding(upload::specs::Turns::last_turned))]
     fn last_turn(self, store: &mut [u32]) -> Turned
         requires { store_words ≤ length store.old }
         ensures { turn_with result store.new ≡ turn_with (last_turned words (settled words store.old (kind_number self.kind) self.plan self.run) (kind_number self.kind) self.plan self.run) (settled words store.old (kind_number self.kind) self.plan self.run) }
@@ -167,7 +166,7 @@ impl Running {
 }
 
 // ITEM_INT from a station. Only a valid item changes the store, at the upload's next place in the other half; the last of a part, at all places of the plan there.
-#[tactic(auto, using(crate::specs::Judging::turned_judged), unfolding(upload::specs::Turns::item_turned))]
+#[tactic(auto, unfolding(upload::specs::Turns::item_turned))]
 pub fn take_item(
     home: bool,
     plan: Plan,
