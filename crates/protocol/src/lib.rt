@@ -10,6 +10,7 @@ ghost use Rattle.rules.specs.Payload.{Bytes};
 ghost use Rattle.rules.specs.Layouts.{set_current_id, clear_all_id, ack_id};
 ghost use Rattle.rules.specs.Messages.{station, decode};
 ghost use Rattle.rules.specs.Step.{kind_ok};
+ghost use Rattle.limits.specs.Kinds.{kind_number};
 ghost use Rattle.message_table.specs.Table.{is_read};
 ghost use Rattle.ranges.specs.Ranges.{plans_ranged};
 ghost use Rattle.ranges.specs.Ranged.{PlanRanges};
@@ -23,7 +24,7 @@ ghost use Rattle.plan.specs.declared.Plan.{Plan};
 
 use answers::{Handled, ack, only, told};
 use clears::clear;
-use limits::{EVERY_KIND, Fault, RALLY};
+use limits::{EVERY_KIND, Fault, Kind, RALLY};
 use places::size_of;
 use plan::{Plan, Station, flown};
 use taking::take_item;
@@ -57,6 +58,14 @@ fn acknowledged(plan: Plan, kind: u8, res: u8, from: Station) -> Effect
     on_ack(plan, from, res).effect
 }
 
+// The kind that has a number up to the last.
+fn known(kind: u8) -> Kind
+    requires { kind ≤ rally }
+    ensures { kind_number result ≡ kind }
+{
+    Kind::try_from(kind).unwrap()
+}
+
 // The messages that speak of the plan of a kind: MISSION_WRITE_PARTIAL_LIST, REQUEST_LIST, COUNT, REQUEST_INT and ITEM_INT.
 #[tactic(auto, unfolding(record_steps::specs::Doing::plan_done, rules::specs::Messages::decode, rules::specs::Messages::message_of))]
 fn turn(
@@ -65,27 +74,28 @@ fn turn(
     current: u16,
     store: &mut [u32],
     reply: &mut [u8],
-    kind: u8,
+    kind: Kind,
     from: Station,
     id: u32,
     own: &[u8; OWN_BYTES],
     clock: u32,
 ) -> Handled
-    requires kind_le_rally { (kind ≤ rally) × PlanRanges kind plan × (store_words ≤ length store.old) × (reply_bytes_min ≤ length reply.old) }
+    requires in_range { PlanRanges (kind_number kind) plan × (store_words ≤ length store.old) × (reply_bytes_min ≤ length reply.old) }
     requires own_value { (is_read (decode id own.now) ≡ true) × (id ≡ set_current_id → ⊥) × (id ≡ clear_all_id → ⊥) × (id ≡ ack_id → ⊥) }
-    ensures { DoneBy (plan_done words home plan current store.old (station from.system from.component) clock kind (request_of (decode id own.now))) store.new reply.old reply.new result }
+    ensures { DoneBy (plan_done words home plan current store.old (station from.system from.component) clock (kind_number kind) (request_of (decode id own.now))) store.new reply.old reply.new result }
 {
+    let number = kind.number();
     match id {
-        REQUEST_LIST_ID => only(shown::list(plan, kind, from, reply)),
+        REQUEST_LIST_ID => only(shown::list(plan, number, from, reply)),
         COUNT_ID => {
             let m = wire::read_count(own);
-            let turned = on_count(plan, from, clock, m.count, size_of(kind));
-            told(turned, kind, from, reply)
+            let turned = on_count(plan, from, clock, m.count, size_of(number));
+            told(turned, number, from, reply)
         }
         PARTIAL_LIST_ID => {
             let m = wire::read_partial_list(own);
             let turned = on_partial(plan, from, clock, m.start, m.end);
-            told(turned, kind, from, reply)
+            told(turned, number, from, reply)
         }
         REQUEST_INT_ID => {
             let m = wire::read_request_int(own);
@@ -95,7 +105,7 @@ fn turn(
         _ => {
             let m = wire::read_item_int(own);
             let turned = take_item(home, plan, store, kind, from, clock, m.item);
-            told(turned, kind, from, reply)
+            told(turned, number, from, reply)
         }
     }
 }
@@ -135,7 +145,16 @@ pub fn answer(
             }
         }
         _ => turn(
-            home, plan, current, store, reply, kind, from, id, own, clock,
+            home,
+            plan,
+            current,
+            store,
+            reply,
+            known(kind),
+            from,
+            id,
+            own,
+            clock,
         ),
     }
 }

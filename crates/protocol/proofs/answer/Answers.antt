@@ -47,6 +47,12 @@ turns_plan home ps current s from clock kind id own x s' b b' h ok n41 n45 is do
 pub clear-requires : goal.clear-requires
 clear-requires c = let ok = sym (c.kind_ok.ensures c.args.own.now) ∙ c.if-not-kind_ok.false in search (known_or_every, ok, rules)
 
+pub known-requires : goal.known-requires
+known-requires c =
+    let rest = c.in_default.in_default-own.rest in
+    let ok = sym (c.kind_ok.ensures c.args.own.now) ∙ c.if-not-kind_ok.false in
+    known_kind _ _ c.args.own.now ok rest.0.1 rest.1
+
 pub turn-requires : goal.turn-requires
 turn-requires c =
     let rest = c.in_default.in_default-own.rest in
@@ -55,7 +61,7 @@ turn-requires c =
     let ok = sym (c.kind_ok.ensures c.args.own.now) ∙ c.if-not-kind_ok.false in
     let known = known_kind _ _ c.args.own.now ok rest.0.1 rest.1 in
     record {
-      kind_le_rally = (known, of_its_kind _ _ c.args.plans.now three known pre.0 pre.1, pre.2, pre.3);
+      in_range = (rw c.known.ensures (of_its_kind _ _ c.args.plans.now three known pre.0 pre.1), pre.2, pre.3);
       own_value = (pre.4, rest.0.0.1, rest.0.1, rest.1);
     }
 
@@ -67,4 +73,4 @@ pub returns-in_default : goal.returns-in_default
 returns-in_default c =
     let rest = c.in_default.in_default-own.rest in
     let ok = sym (c.kind_ok.ensures c.args.own.now) ∙ c.if-not-kind_ok.false in
-    turns_plan _ _ _ _ _ _ _ _ _ _ _ _ _ _ ok rest.0.0.1 rest.0.1 (c.requires.0 (known_kind _ _ c.args.own.now ok rest.0.1 rest.1)) c.turn.ensures
+    turns_plan _ _ _ _ _ _ _ _ _ _ _ _ _ _ ok rest.0.0.1 rest.0.1 (c.requires.0 (known_kind _ _ c.args.own.now ok rest.0.1 rest.1)) (rw c.known.ensures at c.turn.ensures)
