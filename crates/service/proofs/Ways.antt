@@ -1,17 +1,15 @@
 -- What the ways of a message call need and give, over plain variables: a refused call's promise; and of any other the facts that its handler asks for, and the promise by
 -- the handler's effect.
 use Prim.Native.Nat.{ℕ, ◌≤◌}
-use native.Mathlib.Omega.{arith}
 use mathlib.Core.Path.{◌≡◌, refl, sym, ap, ap₂, subst, ◌∙◌}
-use mathlib.Core.List.{List, [], ◌∷◌}
 use mathlib.Core.Bool.{Bool, true}
-use lib.ListN.{length, get_or, set}
-use borrow.Author.Tests.{leb-true, eq-eqb, ne_eqb}
+use lib.ListN.{length, get_or}
+use borrow.Author.Tests.{leb-true}
 use Rattle.rules.specs.Limits.{flight, fence, rally, kinds, store_words, reply_bytes_min}
 use Rattle.std.specs.Prelude.{Option, Some, Result, Ok, Err, IfOk}
 use Rattle.rules.specs.Payload.{Bytes}
 use Rattle.rules.specs.Messages.{Station, Message, decode}
-use Rattle.rules.specs.Model.{in_range, no_counts}
+use Rattle.rules.specs.Model.{in_range}
 use Rattle.rules.specs.Calls.{Call, message, Request, request, heard}
 use Rattle.rules.specs.Step.{command_in, on_message}
 use Rattle.rule_laws.specs.Refused.{plain_stuck, message_plain}
@@ -25,14 +23,13 @@ use Rattle.plan.specs.declared.Plan.{Plan}
 use Rattle.rule_laws.specs.Brought.{request_kind}
 use Rattle.places.specs.Forms.{Store, words}
 use Rattle.places.proofs.Lawful.{words_lawful}
-use Rattle.plan.specs.View.{empty_plan, plan_of, view, fresh_state}
+use Rattle.plan.specs.View.{empty_plan, plan_of, view}
 use Rattle.ranges.specs.Ranges.{plans_ranged, all_ranged, in_range_lem}
 use Rattle.ranges.specs.Ranged.{plans_ranged_lem}
 use Rattle.refusal.specs.Refusals.{refusal_of, request_of, HeadRead, HeardMessage, message_heard}
-use Rattle.upload.specs.Turns.{emptied}
-use Rattle.upload.specs.Effects.{turned_state, renewed_state, emptied_state, chosen_state, applied}
+use Rattle.upload.specs.Effects.{applied}
 use Rattle.upload.specs.declared.Effect.{Effect}
-use Rattle.upload.specs.declared.Effect.TheVariants.{Nothing, Turns, Renews, Changes, EmptiesAll, Chooses}
+use Rattle.upload.specs.declared.Effect.TheVariants.{Turns, Renews, Changes}
 use Rattle.answers.specs.declared.Handled.{Handled}
 use Rattle.protocol.specs.Handlers.{DoneBy}
 use Rattle.record_steps.specs.Doing.{IsPlanOf, message_done}

@@ -5,13 +5,15 @@ ghost use Rattle.std.specs.Prelude.{◌≡◌, ◌≤◌, length, Some};
 ghost use Rattle.rules.specs.Limits.{flight, fence, rally, size_of, store_words, reply_bytes_min};
 ghost use Rattle.rules.specs.Messages.{station};
 ghost use Rattle.rules.specs.Step.{current_field};
+ghost use Rattle.limits.specs.Kinds.{kind_number};
 ghost use Rattle.answers.specs.Answered.{Spoken, Handles};
 ghost use Rattle.record_steps.specs.Shown.{list_answer, request_answer, choose_effect, choose_answer};
 ghost use Rattle.record_steps.specs.Doing.{plan_among};
 ghost use Rattle.places.specs.Forms.{words};
 
 use answers::{Handled, Reply, ack, only, reply_with};
-use limits::{FLIGHT, Fault};
+use limits::{Fault, Kind};
+use places::Items;
 use plan::{Plan, Station, number_shown};
 use upload::Effect;
 
@@ -31,10 +33,10 @@ pub fn list(plan: Plan, kind: u8, to: Station, reply: &mut [u8]) -> Reply
 }
 
 // The current field of an item: 1 exactly for the flight item that is current.
-fn current_field(kind: u8, seq: u16, current: u16) -> u8
-    ensures { result ≡ current_field kind seq current }
+fn current_field(kind: Kind, seq: u16, current: u16) -> u8
+    ensures { result ≡ current_field (kind_number kind) seq current }
 {
-    ((kind == FLIGHT) & (seq == current)) as u8
+    ((kind == Kind::Flight) & (seq == current)) as u8
 }
 
 // REQUEST_INT: the stored item as of now.
@@ -42,18 +44,23 @@ pub fn request(
     plan: Plan,
     current: u16,
     store: &[u32],
-    kind: u8,
+    kind: Kind,
     seq: u16,
     to: Station,
     reply: &mut [u8],
 ) -> Reply
-    requires { (kind ≤ rally) × (plan.len ≤ size_of kind) × (store_words ≤ length store.now) × (reply_bytes_min ≤ length reply.old) }
-    ensures { Spoken (request_answer words plan current store.now (station to.system to.component) kind seq) reply.old reply.new (Some result) }
+    requires { (plan.len ≤ size_of (kind_number kind)) × (store_words ≤ length store.now) × (reply_bytes_min ≤ length reply.old) }
+    ensures { Spoken (request_answer words plan current store.now (station to.system to.component) (kind_number kind) seq) reply.old reply.new (Some result) }
 {
     if plan.len <= seq {
-        return ack(Err(Fault::InvalidSequence), kind, to, reply);
+        return ack(Err(Fault::InvalidSequence), kind.number(), to, reply);
     }
-    let item = storage::fetch(store, kind, plan.half, seq);
+    let items = Items {
+        store,
+        kind,
+        half: plan.half,
+    };
+    let item = storage::fetch(items, seq);
     let message = wire::ItemInt {
         system: to.system,
         component: to.component,

@@ -13,9 +13,9 @@ use Rattle.plan.specs.declared.State.{State}
 use Rattle.plan.specs.declared.Plan.{Plan}
 use Rattle.plan.specs.View.{empty_plan, plan_of, fresh_state}
 use Rattle.upload.specs.Turns.{emptied}
-use Rattle.upload.specs.Effects.{turned_state, renewed_state, emptied_state, chosen_state, applied}
+use Rattle.upload.specs.Effects.{turned_state, renewed_state, emptied_state, applied}
 use Rattle.upload.specs.declared.Effect.{Effect}
-use Rattle.upload.specs.declared.Effect.TheVariants.{Nothing, Turns, Renews, Changes, EmptiesAll, Chooses}
+use Rattle.upload.specs.declared.Effect.TheVariants.{Renews, Changes, EmptiesAll}
 use Rattle.service.proofs.apply.Goals as goal
 
 -- all of them emptied, one after the other

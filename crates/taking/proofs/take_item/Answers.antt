@@ -6,6 +6,7 @@ use lib.Dec.{leb}
 use borrow.Author.Tests.{leb-true}
 use Rattle.std.specs.Prelude.{Option, Some, Result}
 use Rattle.rules.specs.Messages.{Station, Item}
+use Rattle.limits.specs.Kinds.{kind_number}
 use Rattle.places.specs.Forms.{Store, words}
 use Rattle.plan.specs.declared.Plan.{Plan}
 use Rattle.upload.specs.declared.Turned.{Turned}
@@ -38,11 +39,10 @@ pub invariant_of-upload : goal.invariant_of-upload
 invariant_of-upload c =
     let p = c.args.plan in
     let r = c.in-Some.run' in
-    let size = size_of c.args.kind in
-    let ranged : run_ranged size p.len r ≡ true = rw c.in-Some.is at c.requires.2 in
+    let size = size_of (kind_number c.args.kind) in
+    let ranged : run_ranged size p.len r ≡ true = rw c.in-Some.is at c.requires.1 in
     let t = ranges size p.len r ranged in
     record {
-      known = c.requires.1;
       fits = count_within size p.len r ranged;
       begun = t.begun;
       upto = t.upto;
@@ -64,5 +64,5 @@ pub returns : goal.returns
 returns c =
     let a = c.args in
     c.valid_turn.ensures
-    ∙ ap (λ (s : Store). valid_item_turned words s a.kind a.plan c.in-Some.run' a.clock) c.keep.ensures.0
+    ∙ ap (λ (s : Store). valid_item_turned words s (kind_number a.kind) a.plan c.in-Some.run' a.clock) c.keep.ensures.0
     ∙ sym (step _ _ _ _ _ _ _ _ c.in-Some.is _ (sym c.in_default-judge.is ∙ c.judge.ensures))

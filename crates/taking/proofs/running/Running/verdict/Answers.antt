@@ -8,6 +8,7 @@ use Rattle.rules.specs.Payload.{Bytes}
 use Rattle.rules.specs.Messages.{Item}
 use Rattle.rules.specs.Items.{is_jump, jumps_among, fault}
 use Rattle.rules.specs.Model.{Task, verdict_on}
+use Rattle.limits.specs.Kinds.{kind_number}
 use Rattle.item.specs.Patterns.{patterns}
 use Rattle.plan.specs.View.{task_in}
 use Rattle.taking.proofs.Room.{fault_room}
@@ -29,6 +30,8 @@ module _ (home : Bool) (kind : ℕ) (t : Task) (next : ℕ) (items : List Bytes)
 pub returns : goal.returns
 returns c =
     let r = c.args.self.run in
+    let kind = kind_number c.args.self.kind in
     c.verdict.ensures
-    ∙ ap (λ (n : ℕ). fault c.args.home c.args.self.kind r.count r.next n (patterns c.args.item)) c.jumps_before-before.ensures
-    ∙ same_fault c.args.home c.args.self.kind (task_in r) r.next _ (patterns c.args.item) c.args.self.from_start
+    ∙ ap (λ (k : ℕ). fault c.args.home k r.count r.next c.jumps_before-before.result (patterns c.args.item)) c.number-kind.ensures
+    ∙ ap (λ (n : ℕ). fault c.args.home kind r.count r.next n (patterns c.args.item)) c.jumps_before-before.ensures
+    ∙ same_fault c.args.home kind (task_in r) r.next _ (patterns c.args.item) c.args.self.from_start
