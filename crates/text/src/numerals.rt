@@ -80,10 +80,7 @@ fn put_few(text: &mut Text, bytes: &[u8])
 pub fn put_hex(text: &mut Text, bytes: &[u8])
     ensures { Adds (hex bytes.now) text.old text.new }
 {
-    let mut left = bytes;
-    while !left.is_empty() {
-        let (few, rest) = left.split_at(left.len().min(FEW));
+    for few in bytes.chunks(FEW) {
         put_few(text, few);
-        left = rest;
     }
 }
