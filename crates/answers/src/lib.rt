@@ -27,7 +27,8 @@ pub struct Handled {
     pub reply: Option<Reply>,
 }
 
-// A message, written as the reply.
+// A message, written as the reply. Here and above each function asks for a buffer that is long enough: contracts tell of its bytes before and after, so that a
+// struct round the lent slice would be made for every call and taken apart again.
 pub fn reply_with<M: Written>(message: M, reply: &mut [u8]) -> Reply
     requires { reply_bytes_min ≤ length reply.old }
     ensures { Spoken (says (M.message message)) reply.old reply.new (Some result) }

@@ -35,7 +35,7 @@ fn stored_item(words: &[u32], kind: u8, n: u16) -> [u8; ITEM_BYTES]
     item::item_bytes(0, 0, 0, item)
 }
 
-// The line of the item with a number: its bytes.
+// The line of the item with a number: its bytes. In lines a kind is the number that they tell.
 fn put_item(text: &mut Text, letter: u8, kind: u8, n: u16, bytes: &[u8])
     ensures { Adds (item_line letter kind n bytes.now) text.old text.new }
 {

@@ -10,7 +10,8 @@ ghost use Rattle.rules.specs.Values.{float, signed};
 pub use meaning::made;
 pub use payload::{item_at, item_bytes};
 
-// Params, x, y and z as values, with their 32-bit patterns beside them: a NaN's bits do not survive an f32. The methods give the values.
+// Params, x, y and z as values, with their 32-bit patterns beside them: a NaN's bits do not survive an f32. The methods give the values. The kind is the number
+// of the message, which may be any.
 #[derive(Clone, Copy)]
 pub struct Item {
     param1: f32,

@@ -63,7 +63,7 @@ impl Item {
         values::number_of(self.param1())
     }
 
-    // Param 2 as a number: a servo's pulse. 0 where it is none that is at least 0.
+    // Param 2 as a number: a servo's pulse. 0 where it is none that is at least 0. Beside the one of param 1, since no caller has a param's number at hand.
     pub fn number2(self) -> u32
         ensures { result ≡ whole_number (whole_of (float (patterns self).param2)) }
     {

@@ -37,7 +37,8 @@ fn listed_fault(
     checks::row_fault(row, item, count, own, jumps)
 }
 
-// The first fault of an item as number `own` of a plan of `count` items of a kind, with `jumps` jumps before it.
+// The first fault of an item as number `own` of a plan of `count` items of a kind, with `jumps` jumps before it. The kind is a number, since this is promised
+// of every one.
 pub fn verdict(
     home: bool,
     item: Item,

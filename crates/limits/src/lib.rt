@@ -6,7 +6,7 @@ ghost use Rattle.std.specs.Prelude.{◌≡◌};
 ghost use Rattle.limits.specs.Codes.{fault_code, refusal_code};
 ghost use Rattle.limits.specs.Kinds.{kind_number, IsKindOf};
 
-// The kinds of plan as numbers of a message; CLEAR_ALL may also speak of every kind.
+// The kinds of plan as numbers of a message, which may have any there; CLEAR_ALL may also speak of every kind.
 pub const FLIGHT: u8 = 0;
 
 pub const FENCE: u8 = 1;
@@ -50,7 +50,7 @@ impl TryFrom<u8> for Kind {
     }
 }
 
-// The result of an ACK that accepts.
+// The result of an ACK that accepts, beside those of `Fault`: in a message results are numbers.
 pub const ACCEPTED: u8 = 0;
 
 // Why an ACK does not accept: the result that it says.
@@ -97,7 +97,7 @@ impl Refusal {
     }
 }
 
-// The outcome of a call that neither replies nor is refused.
+// The outcome of a call that neither replies nor is refused, beside those of `Refusal`: calls tell their outcomes as numbers too.
 pub const NO_REPLY: u8 = 1;
 
 // The flight commands that other rules name.

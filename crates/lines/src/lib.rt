@@ -54,7 +54,7 @@ fn put_end(text: &mut Text, clean: bool)
     }
 }
 
-// What a message or a timer call returned, and the reply.
+// What a message or a timer call returned, and the reply. Outcomes are numbers here: the definitions of lines tell any.
 pub fn put_served(text: &mut Text, letter: u8, outcome: u8, id: u32, len: usize, reply: &[u8])
     ensures { Adds (served_line letter outcome id len reply.now) text.old text.new }
 {

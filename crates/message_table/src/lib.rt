@@ -85,7 +85,7 @@ pub fn full_of(id: u32) -> usize
 // The longest message that is read here is ITEM_INT.
 pub const OWN_BYTES: usize = ITEM_BYTES;
 
-// What a message is judged by before its own rule: target system, target component and kind.
+// What a message is judged by before its own rule: target system, target component and kind, which may be any numbers.
 #[derive(Clone, Copy)]
 pub struct Head {
     pub system: u8,

@@ -29,6 +29,7 @@ fn start(current: u16, begun: bool) -> u16
 }
 
 // What a "command done" call finds in the flight plan, from the current item on, or from the one behind it if it is begun. Home is not flown.
+// It is handed the state's parts one by one, since none but the public calls are handed a state.
 pub fn next(
     home: bool,
     store: &[u32],

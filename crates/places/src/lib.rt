@@ -18,7 +18,7 @@ use limits::{FENCE, FLIGHT, FRAME_UNIT, ITEM_WORDS, JUMP, Kind, RALLY};
 
 const HALF_PLACES: u32 = 352;
 
-// The most items that a plan of a kind has; 0 above the last kind.
+// The most items that a plan of a kind has; 0 above the last kind, as call scripts and messages may have one.
 pub fn size_of(kind: u8) -> u16
     ensures { result ≡ size_of kind }
 {

@@ -67,7 +67,7 @@ pub fn message_refusal(
     Ok(got)
 }
 
-// Timer calls skip 11 and 13.
+// Timer calls skip 11 and 13. The kind is a number, since it is judged here.
 pub fn timer_refusal(
     ranged: bool,
     store_len: usize,

@@ -7,7 +7,7 @@ use plan::State;
 use text::Text;
 
 // A call of the list stands in a slot: 0 message (1) or timer (2), 1 and 2 own system and component, 3 and 4 the sender's, 5 kind, 6 length of the payload,
-// 8 id, 12 clock, 16 payload.
+// 8 id, 12 clock, 16 payload. The numbers are those that the other program writes.
 const SLOT: usize = 64;
 
 const MESSAGE: u8 = 1;

@@ -12,7 +12,7 @@ pub use kinds::{Kind, Stop, Target};
 use limits::{ITEM_WORDS, JUMP_COUNTS, RALLY};
 use writing::WORD_BYTES;
 
-// The setting that a fresh start takes by b4, where it is not 0: item 0 is home.
+// The setting that a fresh start takes by b4, where it is not 0: item 0 is home. It is a number, as the next is, since a record's byte may be any.
 pub const HOME: u8 = 1;
 
 // What a copy and a comparison take by b4 in the place of the store array, which is 0: the byte array of the old store.

@@ -28,6 +28,7 @@ use storage::{carry_items, keep};
 use upload::updates::{ended, keeps, moves, puts_in, replaced, with_upload};
 use upload::{Say, Turned};
 
+// Each asks for a store that is long enough: it is lent anew to each, for reading or for writing, so that a struct round it would be made for every call.
 impl Running {
     // How many of the first n items in the half that the plan is not in are jumps.
     fn jumps(self, store: &[u32], n: u16) -> u16

@@ -80,7 +80,7 @@ pub fn on_partial(plan: Plan, from: Station, clock: u32, start: u16, end: u16) -
     opened(plan, part)
 }
 
-// ACK from a station: a result that is not 0 ends the station's own upload.
+// ACK from a station: a result that is not 0 ends the station's own upload. It is a number, since a station may send any.
 #[tactic(auto, unfolding(crate::specs::Turns::ack_turned))]
 pub fn on_ack(plan: Plan, from: Station, res: u8) -> Turned
     ensures { result ≡ ack_turned plan (station from.system from.component) res }

@@ -13,7 +13,7 @@ pub fn others_upload(upload: Option<Run>, from: Station) -> bool
     upload.is_some_and(|run| run.from != from)
 }
 
-// A running upload of this station.
+// A running upload of this station: no opposite of the one above, since where nothing runs both are false.
 #[tactic(auto, unfolding(crate::specs::Turns::own_upload))]
 pub fn own_upload(upload: Option<Run>, from: Station) -> bool
     ensures { result ≡ own_upload (station from.system from.component) upload }
@@ -21,7 +21,7 @@ pub fn own_upload(upload: Option<Run>, from: Station) -> bool
     upload.is_some_and(|run| run.from == from)
 }
 
-// The station that a timer call's reply goes to.
+// The station that a timer call's reply goes to; 0/0 where nothing runs, as the definition `station_of` has it.
 pub fn station_of(upload: Option<Run>) -> Station
     ensures { station result.system result.component ≡ station_of upload }
 {

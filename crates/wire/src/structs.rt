@@ -1,4 +1,5 @@
-// A struct for each message that is read or written here. Fields as MAVLink has them; `number` is the plan number.
+// A struct for each message that is read or written here. Fields as MAVLink has them, numbers all, since a message may have any;
+// `number` is the plan number.
 use item::Item;
 
 // MISSION_WRITE_PARTIAL_LIST; start and end as the patterns of signed numbers.

@@ -6,7 +6,7 @@ ghost use Rattle.writing.specs.Written.{written, words_written};
 
 pub const WORD_BYTES: usize = 4;
 
-// Bytes go into the store from a place on, where all of them fit.
+// Bytes go into the store from a place on, where all of them fit. (By `get_mut` of that range a proof loses what stands beside it.)
 pub fn write(store: &mut [u8], at: usize, payload: &[u8])
     ensures { store.new ≡ written store.old at payload.now }
 {
@@ -20,7 +20,8 @@ pub fn write(store: &mut [u8], at: usize, payload: &[u8])
     store[at..end].copy_from_slice(payload);
 }
 
-// The same of words, whose bytes stand in the payload, lowest first. Nothing is written where they are not whole words.
+// The same of words, whose bytes stand in the payload, lowest first. Nothing is written where they are not whole words. Each is read from four
+// bytes, so that one function over both would be no shorter.
 pub fn write_words(store: &mut [u32], at: usize, payload: &[u8])
     ensures { store.new ≡ words_written store.old at payload.now }
 {
