@@ -11,7 +11,7 @@ ghost use Rattle.plan.specs.declared.Plan.{Plan};
 ghost use Rattle.upload.specs.Effects.{applied};
 ghost use Rattle.own_calls.specs.Calls.{Serves, served_result};
 
-use limits::{FLIGHT, JUMP_COUNTS, RALLY};
+use limits::{FLIGHT, JUMP_COUNTS, Kind, NoKind};
 use message_table::receive;
 use plan::{State, Station};
 use protocol::answer;
@@ -30,7 +30,10 @@ pub use own_calls::{Advanced, Served, advance, timer};
 fn place_of(kind: u8) -> usize
     ensures { (result < length kinds) × (kind ≤ limits.rally → result ≡ kind) }
 {
-    if kind <= RALLY { kind as usize } else { 0 }
+    match Kind::try_from(kind) {
+        Ok(kind) => kind as usize,
+        Err(NoKind) => 0,
+    }
 }
 
 // What a handler did, put into the state. A plan that is put in is of a known kind.
