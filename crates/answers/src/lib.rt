@@ -78,13 +78,13 @@ pub fn speak(what: Say, kind: u8, to: Station, reply: &mut [u8]) -> Option<Reply
     }
 }
 
-// What a handler does that only replies.
-pub fn only(reply: Reply) -> Handled
-    ensures { result ≡ record { effect = Effect.Nothing; reply = Some reply } }
+// What a handler does that at most replies.
+pub fn only(reply: Option<Reply>) -> Handled
+    ensures { result ≡ record { effect = Effect.Nothing; reply = reply } }
 {
     Handled {
         effect: Effect::Nothing,
-        reply: Some(reply),
+        reply,
     }
 }
 

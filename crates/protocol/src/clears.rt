@@ -44,7 +44,7 @@ pub fn clear(plan: Plan, plans: &[Plan; 3], kind: u8, from: Station, reply: &mut
     ensures { (store : Store) → DoneBy (clear_done plans.now store (station from.system from.component) kind) store reply.old reply.new result }
 {
     if others_among(plan, plans, from, kind) {
-        return only(ack(Err(Fault::Denied), kind, from, reply));
+        return only(Some(ack(Err(Fault::Denied), kind, from, reply)));
     }
     let accepted = ack(Ok(0), kind, from, reply);
     Handled {

@@ -86,7 +86,7 @@ fn turn(
 {
     let number = kind.number();
     match id {
-        REQUEST_LIST_ID => only(shown::list(plan, number, from, reply)),
+        REQUEST_LIST_ID => only(Some(shown::list(plan, number, from, reply))),
         COUNT_ID => {
             let m = wire::read_count(own);
             let turned = on_count(plan, from, clock, m.count, size_of(number));
@@ -99,7 +99,7 @@ fn turn(
         }
         REQUEST_INT_ID => {
             let m = wire::read_request_int(own);
-            only(shown::request(plan, current, store, kind, m.seq, from, reply))
+            only(Some(shown::request(plan, current, store, kind, m.seq, from, reply)))
         }
         // ITEM_INT is the only other message that is read here.
         _ => {
@@ -129,7 +129,7 @@ pub fn answer(
     ensures { DoneBy (message_done words home plans.now current store.old (station from.system from.component) clock kind (request_of (decode id own.now))) store.new reply.old reply.new result }
 {
     if !kind_ok(id, kind) {
-        return only(ack(Err(Fault::Unsupported), kind, from, reply));
+        return only(Some(ack(Err(Fault::Unsupported), kind, from, reply)));
     }
     match id {
         SET_CURRENT_ID => {

@@ -91,5 +91,5 @@ pub fn set_current(plans: &[Plan; 3], seq: u16, reply: &mut [u8]) -> Handled
             reply: Some(reply_with(message, reply)),
         };
     }
-    only(reply_with(reply::no_such_item(), reply))
+    only(Some(reply_with(reply::no_such_item(), reply)))
 }
