@@ -16,7 +16,9 @@ use Rattle.rules.specs.Calls.{Call, timer, done, expiry, command_done, heard}
 use Rattle.rules.specs.Step.{orders, command_in, on_timer}
 use Rattle.rule_laws.specs.Tests.{either}
 use Rattle.rule_laws.specs.Refused.{plain_stuck, timer_plain}
-use Rattle.std.specs.Prelude.{Option, None, Some, Result, Ok, Err}
+use Rattle.std.specs.Prelude.{Option, None, Some, Result, Ok, Err, IfOk}
+use Rattle.limits.specs.declared.Kind.{Kind}
+use Rattle.limits.specs.Kinds.{kind_number}
 use Rattle.limits.specs.declared.Refusal.{Refusal}
 use Rattle.limits.specs.Codes.{refusal_code, outcome_code, refused}
 use Rattle.plan.specs.declared.State.{State}
@@ -101,6 +103,10 @@ module _ (st : State) (s : Store) (b : Bytes) (kind clock : ℕ) (ranged : Bool)
         says = ap (λ (t : Bool). heard t ticked) (sym (in_range_lem words st s ranged test)) ∙ said.says;
       }
 
+-- the place of the kind that is given back
+pub place_lem : (verdict : Result Kind Refusal) (kind : ℕ) → IfOk verdict (λ (known : Kind). kind_number known ≡ kind) → (known : Kind) → verdict ≡ Ok known → (k : ℕ) → k ≡ kind_number known → k ≡ kind
+place_lem verdict kind given known is k stands = stands ∙ (rw is at given)
+
 -- a timer call puts a plan in, or does nothing
 abbrev TurnsAtMost : Effect → Type 0
 TurnsAtMost Nothing = Unit
@@ -130,7 +136,8 @@ no_turn (Chooses seq) least other = absurd least
 
 -- what the handler did
 module _ (st : State) (s : Store) (b : Bytes) (kind clock : ℕ) (taken : TimerTaken st s b kind clock) (b' : Bytes) (h : Handled)
-    (by : (l : Bytes) → Handles (timer_done (plan_of st kind) l clock kind).effect (timer_done (plan_of st kind) l clock kind).answer b b' h) where
+    (k : ℕ) (place : k ≡ kind)
+    (by : (l : Bytes) → Handles (timer_done (plan_of st k) l clock kind).effect (timer_done (plan_of st k) l clock kind).answer b b' h) where
   timer_serves : (e : Effect) → h.effect ≡ e → Serves (timer kind clock (length s) (length b)) st s s b b' (served_result (served (applied st kind e) h))
   unfolding timer_done
   timer_serves e is =
@@ -141,15 +148,15 @@ module _ (st : State) (s : Store) (b : Bytes) (kind clock : ℕ) (taken : TimerT
       applied_serves c st s s b b' kind (timer_done (plan_of st kind) s clock kind) h
       (timer_steps words words_lawful c st s taken.three taken.ranges clock kind known taken.says)
       (ap command_in agree.answer ∙ plain_stuck (on_timer u (view st s) clock kind).answer (timer_plain (view st s) u clock kind))
-      (record { handles = by s; store = refl }) e is
+      (record { handles = rw place at (by s); store = refl }) e is
 
-  pub timer_turns : (plan : Plan) → h.effect ≡ Turns plan → Serves (timer kind clock (length s) (length b)) st s s b b' (served_result (served (turned_state st kind plan) h))
-  timer_turns plan is = timer_serves (Turns plan) is
+  pub timer_turns : (plan : Plan) → h.effect ≡ Turns plan → Serves (timer kind clock (length s) (length b)) st s s b b' (served_result (served (turned_state st k plan) h))
+  timer_turns plan is = rw place (timer_serves (Turns plan) is)
 
   pub timer_nothing : ((q : Plan) → h.effect ≡ Turns q → ⊥) → Serves (timer kind clock (length s) (length b)) st s s b b' (served_result (served st h))
   unfolding timer_done
   timer_nothing other =
-      let p = plan_of st kind in
+      let p = plan_of st k in
       let least = subst TurnsAtMost (sym (by s).effect) (turns_at_most p clock p.upload) in
       timer_serves Nothing (no_turn h.effect least other)
 

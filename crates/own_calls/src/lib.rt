@@ -2,13 +2,15 @@
 // `Serves` of specs/Calls.antt, over the rules' own step.
 #![tactic(auto)]
 
-ghost use Rattle.std.specs.Prelude.{◌≡◌, [], length};
+ghost use Rattle.std.specs.Prelude.{◌≡◌, ◌<◌, [], length};
+ghost use Rattle.rules.specs.Limits.{kinds};
 ghost use Rattle.rules.specs.Calls as calls;
+ghost use Rattle.limits.specs.Kinds.{kind_number};
 ghost use Rattle.own_calls.specs.Calls.{Serves, answer_outcome, answer_id, answer_len, advance_outcome, advance_command, served_result, advance_result};
 
 use answers::Reply;
 use command::Command;
-use limits::{NO_REPLY, Refusal};
+use limits::{Kind, NO_REPLY, Refusal};
 use plan::State;
 use protocol::expire;
 use ranges::ranged;
@@ -85,18 +87,29 @@ impl Advanced {
     }
 }
 
+// The place of a kind's plan among the plans.
+fn place_of(kind: Kind) -> usize
+    ensures { (result ≡ kind_number kind) × (result < length kinds) }
+{
+    kind as usize
+}
+
 // A timer call for one kind. Wrong answers that this rules out: refusing everything, and expiries by another clock than the one handed in.
 pub fn timer(mut state: State, store: &[u32], reply: &mut [u8], kind: u8, clock: u32) -> Served
     ensures { Serves (calls.timer kind clock (length store.now) (length reply.old)) state store.now store.now reply.old reply.new (served_result result) }
 {
     let in_range = ranged(&state);
-    if let Err(refusal) = timer_refusal(in_range, store.len(), reply.len(), kind) {
-        return Served {
-            state,
-            answer: Err(refusal),
-        };
-    }
-    let k = kind as usize;
+    let verdict = timer_refusal(in_range, store.len(), reply.len(), kind);
+    let known = match verdict {
+        Ok(known) => known,
+        Err(refusal) => {
+            return Served {
+                state,
+                answer: Err(refusal),
+            };
+        }
+    };
+    let k = place_of(known);
     let done = expire(state.plans[k], kind, clock, reply);
     if let Effect::Turns(plan) = done.effect {
         state.plans[k] = plan;

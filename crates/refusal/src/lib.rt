@@ -6,9 +6,10 @@ ghost use Rattle.rules.specs.Payload.{Bytes};
 ghost use Rattle.rules.specs.Messages.{Station, station};
 ghost use Rattle.rules.specs.Calls.{message, timer, done, heard, ours_or_all};
 ghost use Rattle.limits.specs.Codes.{outcome_code};
+ghost use Rattle.limits.specs.Kinds.{kind_number};
 ghost use Rattle.refusal.specs.Refusals.{refusal_of, room_refusal, HeadRead};
 
-use limits::{RALLY, REPLY_BYTES, Refusal, STORE_WORDS};
+use limits::{Kind, NoKind, REPLY_BYTES, Refusal, STORE_WORDS};
 use message_table::Received;
 
 // A target number that is ours, or 0 for all.
@@ -67,18 +68,19 @@ pub fn message_refusal(
     Ok(got)
 }
 
-// Timer calls skip 11 and 13. The kind is a number, since it is judged here.
+// Timer calls skip 11 and 13. The kind, which is judged here, is given back where the call is not refused.
 pub fn timer_refusal(
     ranged: bool,
     store_len: usize,
     reply_len: usize,
     kind: u8,
-) -> Result<(), Refusal>
-    ensures { (clock : ℕ) → outcome_code result ≡ refusal_of (heard ranged (timer kind clock store_len reply_len)) }
+) -> Result<Kind, Refusal>
+    ensures outcome { (clock : ℕ) → outcome_code result ≡ refusal_of (heard ranged (timer kind clock store_len reply_len)) }
+    ensures given { IfOk result (λ known. kind_number known ≡ kind) }
 {
     room_refusal(ranged, store_len, reply_len)?;
-    if RALLY < kind {
-        return Err(Refusal::NotRead);
+    match Kind::try_from(kind) {
+        Ok(known) => Ok(known),
+        Err(NoKind) => Err(Refusal::NotRead),
     }
-    Ok(())
 }

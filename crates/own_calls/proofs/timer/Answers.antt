@@ -1,33 +1,35 @@
 -- A refused call by its refusal; any other by the timer's turn, put into the state.
+use mathlib.Core.Path.{◌≡◌}
+use lib.ListN.{length}
 use borrow.Author.Rules.{rules}
-use Rattle.own_calls.proofs.Ways.{TimerTaken, timer_refused, timer_taken, timer_turns, timer_nothing}
+use Rattle.rules.specs.Limits.{kinds}
+use Rattle.own_calls.proofs.Ways.{TimerTaken, timer_refused, timer_taken, place_lem, timer_turns, timer_nothing}
 use Rattle.own_calls.proofs.timer.Goals as goal
 
 pub returns-in-Err : goal.returns-in-Err
-returns-in-Err c = search (timer_refused, rules)
-
-pub bounds-state-k : goal.bounds-state-k
-bounds-state-k c =
-    let t : TimerTaken c.args.state c.args.store.now c.args.reply.now c.args.kind c.args.clock = search (timer_taken, rules) in
-    search (t, rules)
+returns-in-Err c =
+    let outcome = c.timer_refusal-verdict.ensures.outcome in
+    search (timer_refused, outcome, rules)
 
 pub expire-done-requires : goal.expire-done-requires
 expire-done-requires c =
-    let t : TimerTaken c.args.state c.args.store.now c.args.reply.now c.args.kind c.args.clock = search (timer_taken, rules) in
+    let outcome = c.timer_refusal-verdict.ensures.outcome in
+    let three : length c.args.state.plans ≡ length kinds = search rules in
+    let t : TimerTaken c.args.state c.args.store.now c.args.reply.now c.args.kind c.args.clock = timer_taken _ _ _ _ _ _ _ c.ranged-in_range.ensures outcome c.in-Ok.known c.in-Ok.is three in
     t.room
-
-pub bounds-state-k-in-Turns : goal.bounds-state-k-in-Turns
-bounds-state-k-in-Turns c =
-    let t : TimerTaken c.args.state c.args.store.now c.args.reply.now c.args.kind c.args.clock = search (timer_taken, rules) in
-    search (t, rules)
 
 pub returns-in-Turns : goal.returns-in-Turns
 returns-in-Turns c =
-    let t : TimerTaken c.args.state c.args.store.now c.args.reply.now c.args.kind c.args.clock = search (timer_taken, rules) in
-    search (timer_turns, t, rules)
+    let outcome = c.timer_refusal-verdict.ensures.outcome in
+    let three : length c.args.state.plans ≡ length kinds = search rules in
+    let t : TimerTaken c.args.state c.args.store.now c.args.reply.now c.args.kind c.args.clock = timer_taken _ _ _ _ _ _ _ c.ranged-in_range.ensures outcome c.in-Ok.known c.in-Ok.is three in
+    let place = place_lem _ _ c.timer_refusal-verdict.ensures.given c.in-Ok.known c.in-Ok.is _ c.place_of-k.ensures.0 in
+    timer_turns _ _ _ _ _ t _ _ _ place c.expire-done.ensures _ c.in-Turns.is
 
-pub returns-in_default-effect : goal.returns-in_default-effect
-returns-in_default-effect c =
-    let t : TimerTaken c.args.state c.args.store.now c.args.reply.now c.args.kind c.args.clock = search (timer_taken, rules) in
-    let other = c.in_default-effect.not-Turns in
-    search (timer_nothing, t, other, rules)
+pub returns-in_default : goal.returns-in_default
+returns-in_default c =
+    let outcome = c.timer_refusal-verdict.ensures.outcome in
+    let three : length c.args.state.plans ≡ length kinds = search rules in
+    let t : TimerTaken c.args.state c.args.store.now c.args.reply.now c.args.kind c.args.clock = timer_taken _ _ _ _ _ _ _ c.ranged-in_range.ensures outcome c.in-Ok.known c.in-Ok.is three in
+    let place = place_lem _ _ c.timer_refusal-verdict.ensures.given c.in-Ok.known c.in-Ok.is _ c.place_of-k.ensures.0 in
+    timer_nothing _ _ _ _ _ t _ _ _ place c.expire-done.ensures c.in_default.not-Turns
