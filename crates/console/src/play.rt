@@ -6,6 +6,7 @@ use streams::Unread;
 use text::Text;
 
 // The arrays that a script's calls are lent, the store's words and the old store's bytes, and a copy of either.
+#[derive(Drop)]
 pub struct Arrays {
     store: [u32; STORE_ARRAY],
     copy: [u32; STORE_ARRAY],
@@ -54,7 +55,13 @@ fn front<T>(list: &mut [T], n: usize) -> &mut [T] {
 }
 
 // A message call.
-fn message(record: Record, payload: &[u8], text: &mut Text, store: &mut [u32], state: State) -> State {
+fn message(
+    record: Record,
+    payload: &[u8],
+    text: &mut Text,
+    store: &mut [u32],
+    state: State,
+) -> State {
     let mut reply = [REPLY_FILL; REPLY_ARRAY];
     let served = service::message(
         state,
@@ -68,7 +75,14 @@ fn message(record: Record, payload: &[u8], text: &mut Text, store: &mut [u32], s
         payload,
         record.clock,
     );
-    lines::put_served(text, b'm', served.outcome, served.id, served.len, &reply);
+    lines::put_served(
+        text,
+        b'm',
+        served.outcome(),
+        served.id(),
+        served.len(),
+        &reply,
+    );
     served.state
 }
 
@@ -81,13 +95,20 @@ fn timer(record: Record, text: &mut Text, store: &[u32], state: State) -> State 
         record.b4,
         record.clock,
     );
-    lines::put_served(text, b't', served.outcome, served.id, served.len, &reply);
+    lines::put_served(
+        text,
+        b't',
+        served.outcome(),
+        served.id(),
+        served.len(),
+        &reply,
+    );
     served.state
 }
 
 fn done(record: Record, text: &mut Text, store: &[u32], state: State) -> State {
     let advanced = service::advance(state, text::first(store, record.store));
-    lines::put_done(text, advanced.outcome, advanced.command);
+    lines::put_done(text, advanced.outcome(), advanced.command());
     advanced.state
 }
 
@@ -117,7 +138,13 @@ fn write(record: Record, payload: &[u8], arrays: &mut Arrays, state: State) {
 }
 
 // Plays a record: the state after it.
-pub fn play(record: Record, payload: &[u8], text: &mut Text, arrays: &mut Arrays, state: State) -> State {
+pub fn play(
+    record: Record,
+    payload: &[u8],
+    text: &mut Text,
+    arrays: &mut Arrays,
+    state: State,
+) -> State {
     let of_old = record.b4 == script::OLD;
     let kind = record.kind;
     match kind {

@@ -1,7 +1,7 @@
 // The lines that a call script's records print, each put behind the text so far.
 #![tactic(auto)]
 
-ghost use Rattle.std.specs.Prelude.{◌≡◌, ◌↔◌, drop, IsTrue, EachIndex, slice_index};
+ghost use Rattle.std.specs.Prelude.{◌≡◌, drop};
 ghost use Rattle.adding.specs.Added.{Adds};
 ghost use Rattle.lines.specs.Lines.{untouched as Lines·untouched, reply_text, marked_end, served_line, done_line, moved_line, stop_text};
 
@@ -12,10 +12,15 @@ use text::Text;
 // What a reply array holds before a call.
 pub const REPLY_FILL: u8 = 0xA5;
 
+// Whether all bytes are what a reply array was filled with. All are looked at: the compiler makes a loop wide that does not leave early, and not `all`.
 fn filled(bytes: &[u8]) -> bool
-    ensures { IsTrue result ↔ EachIndex bytes.now (λ k. slice_index bytes.now k ≡ 165) }
+    ensures { result ≡ Lines·untouched bytes.now }
 {
-    bytes.iter().all(|byte| *byte == REPLY_FILL)
+    let mut same = true;
+    for byte in bytes {
+        same = same & (*byte == REPLY_FILL);
+    }
+    same
 }
 
 // Whether the bytes of a reply array from len on are what they were before the call.

@@ -1,6 +1,6 @@
 -- What a search meets, as the code holds it, and one item of it; the rules' `meets` is a look at each item in turn.
 use Rattle.std.specs.Prelude.{ℕ, suc, ◌<◌, ◌≡◌, refl, List, [], ◌∷◌, Bool, true, false, not, cond, get_or, ℤ, pos, negsuc, eqb, Option, None, Some, unwrap_or}
-use Rattle.std.proofs.Common.{arith, sym, subst, true≢false, eqb-true}
+use Rattle.std.proofs.Common.{sym, subst, true≢false, eqb-true}
 use Rattle.std.proofs.lemmas.Bool.{not-false}
 use Rattle.rules.specs.Limits.{flight, max_runs, max_jumps, accepted}
 use Rattle.rules.specs.Payload.{Bytes}
@@ -85,7 +85,7 @@ same_followed {size} {counts} {j} {t} {k} {u} {b} {c} e f =
 pub follows_known : (home : Bool) (size : ℕ) (counts : List ℕ) (rest : List Bytes) (n i : ℕ) {j t : ℕ} {c : Bool}
     → met_for (meets home size counts rest n i) ≡ Follows j t c → Followed size counts j t c
 unfolding meets
-follows_known home size counts [] n i e = absurd (let z : ◌≡◌ {A = ℕ} 0 1 = cc in omega arith)
+follows_known home size counts [] n i e = cc
 follows_known home size counts (b ∷ rest) n i {j} {t} {c} e =
     go (not (eqb (fault home flight size n i (item_in b)) accepted)) (not (is_jump (item_in b))) (passed_over (repeat_of (item_in b)) (get_or counts i 0)) refl refl refl
     (follows_known home size counts rest (suc n) (suc i)) e
@@ -95,8 +95,8 @@ follows_known home size counts (b ∷ rest) n i {j} {t} {c} e =
         → (met_for (meets home size counts rest (suc n) (suc i)) ≡ Follows j t c → Followed size counts j t c)
         → met_for (cond broken (ends rules.stuck) (cond other (stands n (item_in b)) (cond over (meets home size counts rest (suc n) (suc i)) (follows i (item_in b))))) ≡ Follows j t c
         → Followed size counts j t c
-    go true other over eb eo ev later h = absurd (let z : ◌≡◌ {A = ℕ} 0 1 = cc in omega arith)
-    go false true over eb eo ev later h = absurd (let z : ◌≡◌ {A = ℕ} 0 1 = cc in omega arith)
+    go true other over eb eo ev later h = cc
+    go false true over eb eo ev later h = cc
     go false false true eb eo ev later h = later h
     go false false false eb eo ev later h = same_followed h (follows_one home size counts n i (item_in b) eb eo ev)
 
@@ -108,6 +108,6 @@ over_room home size counts n j i = go (eqb (fault home flight size n j i) accept
     go : (fine is : Bool) → eqb (fault home flight size n j i) accepted ≡ fine → is_jump i ≡ is
         → cond (not fine) (Some (Ends Stuck)) (cond (not is) (Some (Stands n (command_for (command_of n i)))) (jump_as (repeat_of i) (target_of i) j (get_or counts j 0))) ≡ None
         → j < max_jumps
-    go false is ef ei h = absurd (let z : ◌≡◌ {A = ℕ} 0 1 = cc in omega arith)
-    go true false ef ei h = absurd (let z : ◌≡◌ {A = ℕ} 0 1 = cc in omega arith)
+    go false is ef ei h = cc
+    go true false ef ei h = cc
     go true true ef ei h = (valid_jump home size n j i (eqb-true (fault home flight size n j i) accepted ef) ei).room

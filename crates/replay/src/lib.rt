@@ -28,15 +28,15 @@ fn call(state: State, slot: &[u8; SLOT], store: &mut [u32], reply: &mut [u8]) ->
 
 // What a call returned as one number.
 fn total(served: &Served) -> u64 {
-    (served.outcome as u64 + served.id as u64).wrapping_add(served.len as u64)
+    (served.outcome() as u64 + served.id() as u64).wrapping_add(served.len() as u64)
 }
 
 // Tells what a call returned in a slot: 0 outcome, 1 length, 4 id, 8 the reply's bytes.
 fn tell(slot: &mut [u8], served: &Served, reply: &[u8]) {
     let mut text = Text::new(slot);
-    text.put(&[served.outcome, (served.len % 256) as u8, 0, 0]);
-    text.put(&served.id.to_le_bytes());
-    text.put(text::first(reply, served.len));
+    text.put(&[served.outcome(), (served.len() % 256) as u8, 0, 0]);
+    text.put(&served.id().to_le_bytes());
+    text.put(text::first(reply, served.len()));
 }
 
 // Plays the calls of a list, tells what they return as far as there is room, and answers the sum of it.
@@ -44,11 +44,11 @@ fn tell(slot: &mut [u8], served: &Served, reply: &[u8]) {
 pub extern "C" fn douzanelh_replay(calls: &[u8], store: &mut [u32], told: &mut [u8]) -> u64 {
     let mut reply = [0u8; REPLY_ARRAY];
     let mut state = service::fresh(false);
-    let mut slots = told.chunks_exact_mut(SLOT);
+    let answers = told.as_chunks_mut::<SLOT>().0;
     let mut sum: u64 = 0;
-    for slot in calls.as_chunks::<SLOT>().0 {
+    for (i, slot) in calls.as_chunks::<SLOT>().0.iter().enumerate() {
         let served = call(state, slot, store, &mut reply);
-        if let Some(answer) = slots.next() {
+        if let Some(answer) = answers.get_mut(i) {
             tell(answer, &served, &reply);
         }
         sum = sum.wrapping_add(total(&served));
