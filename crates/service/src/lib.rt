@@ -1,5 +1,5 @@
 // The drone's mission service: a fresh start, a message, a timer call and "command done". These are its only public calls; none asks anything of its
-// caller, and no function below them gives the state. What each promises is `Serves` of own_calls/specs/Calls.antt, over the rules' own step.
+// caller, and of the functions below them none takes or gives the state, which `ranges::ranged` is lent for reading. What each promises is `Serves` of own_calls/specs/Calls.antt, over the rules' own step.
 #![tactic(auto)]
 
 ghost use Rattle.std.specs.Prelude.{◌≡◌, ◌≤◌, ◌<◌, length};
