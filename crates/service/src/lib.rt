@@ -75,7 +75,7 @@ fn apply(state: &mut State, kind: u8, effect: Effect)
     }
 }
 
-// A message call. Wrong answers that this rules out: refusing everything, and a reply that goes to another station than the sender.
+// A message call. Its parameters are as the public call has them, stations as two numbers each. Wrong answers that this rules out: refusing everything, and a reply that goes to another station than the sender.
 pub fn message(
     mut state: State,
     store: &mut [u32],
