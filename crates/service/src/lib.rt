@@ -1,5 +1,5 @@
 // The drone's mission service: a fresh start, a message, a timer call and "command done". These are its only public calls; none asks anything of its
-// caller, and no function below them gives the state. What each promises is `Serves` of own_calls/specs/Calls.antt, over the rules' own step.
+// caller, and of the functions below them none takes or gives the state, which `ranges::ranged` is lent for reading. What each promises is `Serves` of own_calls/specs/Calls.antt, over the rules' own step.
 #![tactic(auto)]
 
 ghost use Rattle.std.specs.Prelude.{◌≡◌, ◌≤◌, ◌<◌, length};
@@ -78,7 +78,7 @@ fn apply(state: &mut State, kind: u8, effect: Effect)
     }
 }
 
-// A message call. Wrong answers that this rules out: refusing everything, and a reply that goes to another station than the sender.
+// A message call. Its parameters are as the public call has them, stations as two numbers each. Wrong answers that this rules out: refusing everything, and a reply that goes to another station than the sender.
 pub fn message(
     mut state: State,
     store: &mut [u32],

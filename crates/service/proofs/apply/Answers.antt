@@ -15,7 +15,7 @@ use Rattle.plan.specs.View.{empty_plan, plan_of, fresh_state}
 use Rattle.upload.specs.Turns.{emptied}
 use Rattle.upload.specs.Effects.{turned_state, renewed_state, emptied_state, applied}
 use Rattle.upload.specs.declared.Effect.{Effect}
-use Rattle.upload.specs.declared.Effect.TheVariants.{Renews, Changes, EmptiesAll}
+use Rattle.upload.specs.declared.Effect.TheVariants.{Turns, Renews, Changes, EmptiesAll}
 use Rattle.service.proofs.apply.Goals as goal
 
 -- all of them emptied, one after the other
@@ -38,6 +38,9 @@ all_emptied (a ∷ b ∷ []) three current begun home counts = absurd (omega ari
 all_emptied (a ∷ b ∷ c ∷ d ∷ l) three current begun home counts = absurd (omega arith)
 
 module _ (st : State) (kind : ℕ) (e : Effect) where
+  turns : (p : Plan) → e ≡ Turns p → turned_state st kind p ≡ applied st kind e
+  turns p is = rw is
+
   renews : (p : Plan) → e ≡ Renews p → (kind ≡ flight → ⊥) → turned_state st kind p ≡ applied st kind e
   unfolding renewed_state
   renews p is other = rw (is, ne_eqb kind flight other)
@@ -60,6 +63,9 @@ module _ (st : State) (kind : ℕ) (e : Effect) where
       → x ≡ emptied (plan_of st flight) → y ≡ emptied (plan_of st fence) → z ≡ emptied (plan_of st rally)
       → ◌≡◌ {A = State} (record { plans = x ∷ y ∷ z ∷ []; current = begins.current; begun = begins.begun; home = begins.home; counts = begins.counts }) (applied st kind e)
   empties x y z begins three new is ex ey ez = rw (is, new, ex, ey, ez) (all_emptied st.plans three st.current st.begun st.home st.counts)
+
+pub returns-in-Turns : goal.returns-in-Turns
+returns-in-Turns c = search (turns, rules)
 
 pub returns-then-kind-eq-FLIGHT : goal.returns-then-kind-eq-FLIGHT
 returns-then-kind-eq-FLIGHT c = search (restarts, rules)
