@@ -42,3 +42,6 @@ pub returns-in-Ok-clause-outcome : goal.returns-in-Ok-clause-outcome
 returns-in-Ok-clause-outcome c clock =
     let is : kind_number c.in-Ok.known ≡ c.args.kind = search rules in
     passes _ _ _ _ _ c.in_ok-room_refusal.ensures (omega (arith, is, kind_known c.in-Ok.known))
+
+pub returns-in-Ok-clause-given : goal.returns-in-Ok-clause-given
+returns-in-Ok-clause-given c = let is : kind_number c.in-Ok.known ≡ c.args.kind = search rules in is
