@@ -37,10 +37,10 @@ fn put_home(text: &mut Text, home: bool)
 fn put_state(text: &mut Text, halves: bool, state: State, store: &[u32])
     ensures { Adds (state_text halves state store.now) text.old text.new }
 {
-    let plans = state.plans;
-    put_kind(text, halves, Kind::Flight, plans[0], store);
-    put_kind(text, halves, Kind::Fence, plans[1], store);
-    put_kind(text, halves, Kind::Rally, plans[2], store);
+    let [flight, fence, rally] = state.plans;
+    put_kind(text, halves, Kind::Flight, flight, store);
+    put_kind(text, halves, Kind::Fence, fence, store);
+    put_kind(text, halves, Kind::Rally, rally, store);
     let counts = state.counts;
     put_current(text, state.current, state.begun, counts);
     put_home(text, state.home);
@@ -53,7 +53,8 @@ fn in_range(state: State) -> bool
     ranges::ranged(&state)
 }
 
-// The whole dump; the refusal alone where a number of the state is out of its range. With the lowest bit of the options set no halves are told.
+// The whole dump; the refusal alone where a number of the state is out of its range. The options are a record's byte, which may be any: with its lowest bit set
+// no halves are told.
 pub fn put_dump(text: &mut Text, options: u8, state: State, store: &[u32])
     ensures { Adds (dump_text options state store.now) text.old text.new }
 {
