@@ -134,7 +134,7 @@ pub fn advance(mut state: State, store: &[u32]) -> Advanced
     let found = next_command::next(
         state.home,
         store,
-        state.plans[0],
+        state.plans[Kind::Flight as usize],
         state.current,
         state.begun,
         state.counts,
