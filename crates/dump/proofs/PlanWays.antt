@@ -13,23 +13,23 @@ use Rattle.adding.specs.Added.{Filled, Adds}
 use Rattle.adding.specs.Laws.{adds_both, adds_nothing}
 use Rattle.dump.specs.Plans.{item_line, item_lines}
 
--- eight words, read one by one, are the item of the words that they stand among
+-- of eight words that are those of a list, the item is the list's
 pub item_read
-    : (stored : List ℕ) (kind n w0 w1 w2 w3 w4 w5 w6 w7 : ℕ) (item : Item) (bytes : List ℕ)
-    → w0 ≡ get_or stored 0 0
-    → w1 ≡ get_or stored 1 0
-    → w2 ≡ get_or stored 2 0
-    → w3 ≡ get_or stored 3 0
-    → w4 ≡ get_or stored 4 0
-    → w5 ≡ get_or stored 5 0
-    → w6 ≡ get_or stored 6 0
-    → w7 ≡ get_or stored 7 0
-    → item ≡ item_for (item_of_words (w0 ∷ w1 ∷ w2 ∷ w3 ∷ w4 ∷ w5 ∷ w6 ∷ w7 ∷ []) kind n)
+    : (stored words : List ℕ) (kind n : ℕ) (item : Item) (bytes : List ℕ)
+    → get_or stored 0 0 ≡ get_or words 0 0
+    → get_or stored 1 0 ≡ get_or words 1 0
+    → get_or stored 2 0 ≡ get_or words 2 0
+    → get_or stored 3 0 ≡ get_or words 3 0
+    → get_or stored 4 0 ≡ get_or words 4 0
+    → get_or stored 5 0 ≡ get_or words 5 0
+    → get_or stored 6 0 ≡ get_or words 6 0
+    → get_or stored 7 0 ≡ get_or words 7 0
+    → item ≡ item_for (item_of_words stored kind n)
     → BytesOf (item_int (station 0 0) 0 (patterns item)) bytes
-    → bytes ≡ item_of (item_of_words stored kind n)
+    → bytes ≡ item_of (item_of_words words kind n)
 unfolding item_of
-item_read stored kind n w0 w1 w2 w3 w4 w5 w6 w7 item bytes e0 e1 e2 e3 e4 e5 e6 e7 is made =
-    let same : item_of_words (w0 ∷ w1 ∷ w2 ∷ w3 ∷ w4 ∷ w5 ∷ w6 ∷ w7 ∷ []) kind n ≡ item_of_words stored kind n =
+item_read stored words kind n item bytes e0 e1 e2 e3 e4 e5 e6 e7 is made =
+    let same : item_of_words stored kind n ≡ item_of_words words kind n =
     λ i. item_of_words (e0 i ∷ e1 i ∷ e2 i ∷ e3 i ∷ e4 i ∷ e5 i ∷ e6 i ∷ e7 i ∷ []) kind n in
     made.all ∙ ap (λ (i : rules.Item). encode (item_int (station 0 0) 0 i)) (patterns_of is ∙ same)
 

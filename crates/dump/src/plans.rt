@@ -21,16 +21,7 @@ fn word(words: &[u32], at: usize) -> u32
 fn stored_item(words: &[u32], kind: u8, n: u16) -> [u8; ITEM_BYTES]
     ensures { result ≡ item_of (item_of_words words.now kind n) }
 {
-    let stored = [
-        word(words, 0),
-        word(words, 1),
-        word(words, 2),
-        word(words, 3),
-        word(words, 4),
-        word(words, 5),
-        word(words, 6),
-        word(words, 7),
-    ];
+    let stored = std::array::from_fn(|i| word(words, i));
     let item = storage::from_words(stored, kind, n);
     item::item_bytes(0, 0, 0, item)
 }
