@@ -1,13 +1,25 @@
 -- Laws of text that is added to.
-use Rattle.std.specs.Prelude.{ℕ, zero, suc, ◌+◌, ◌-◌, ◌<◌, ◌≤◌, ◌≡◌, refl, List, [], ◌∷◌, ◌++◌, length, take, get_or}
+use Rattle.std.specs.Prelude.{ℕ, zero, suc, ◌+◌, ◌-◌, ◌<◌, ◌≤◌, min, ◌≡◌, refl, List, [], ◌∷◌, ◌++◌, length, take, get_or}
 use Rattle.std.proofs.Common.{ap, sym, ◌∙◌, append_assoc, append-nil, add-one, arith, length-take, length-append, take_all, take-suc}
 use Rattle.std.proofs.Math.Seq.{take-nil}
 use Rattle.adding.specs.Added.{Filled, size_of, Adds, each}
+use Rattle.adding.specs.Parts.{front_of}
 
 take_both : (n : ℕ) (a b : List ℕ) → take n a ++ take (n - length a) b ≡ take n (a ++ b)
 take_both n [] b = let all : n - 0 ≡ n = omega arith in rw (take-nil, all)
 take_both zero (x ∷ a) b = let none : zero - suc (length a) ≡ zero = omega arith in rw none
 take_both (suc n) (x ∷ a) b = let less : suc n - suc (length a) ≡ n - length a = omega arith in rw less (ap (λ (l : List ℕ). x ∷ l) (take_both n a b))
+
+-- what stands behind the first of a list, as far as the list goes
+pub behind
+    : (at start : ℕ) (l more : List ℕ) → start ≡ min at (length l) → take start l ++ take (length l - start) more ≡ take (length l) (take at l ++ more)
+behind at start l more is =
+    let n : length (take start l) ≡ start = omega (arith, length-take start l) in
+    let all : take (length l) (take start l) ≡ take start l = take_all (length l) (take start l) (omega arith) in
+    ap (λ (k : List ℕ). k ++ take (length l - start) more) (sym all)
+    ∙ ap (λ (k : ℕ). take (length l) (take start l) ++ take (length l - k) more) (sym n)
+    ∙ take_both (length l) (take start l) more
+    ∙ ap (λ (k : List ℕ). take (length l) (k ++ more)) (front_of at start l is)
 
 -- two texts, one after the other
 pub adds_both : {t u : List ℕ} {before between after : Filled} → Adds t before between → Adds u between after → Adds (t ++ u) before after

@@ -3,7 +3,7 @@
 
 mod parts;
 
-ghost use Rattle.std.specs.Prelude.{[], ◌∷◌, ◌≡◌, ◌-◌, ◌≤◌, length, take};
+ghost use Rattle.std.specs.Prelude.{[], ◌∷◌, ◌≡◌, ◌-◌, ◌≤◌, ◌++◌, length, take};
 ghost use Rattle.adding.specs.Added.{Filled, emptied, size_of, Adds};
 
 pub use parts::{first, part, within};
@@ -69,4 +69,17 @@ impl<'a> Text<'a> {
         self.bytes[self.len..end].copy_from_slice(fits);
         self.len = end;
     }
+}
+
+// Where the text ends once more stands behind a slice's first bytes, as far as the slice goes.
+pub fn put_at(out: &mut [u8], at: usize, more: &[u8]) -> usize
+    ensures text { take result out.new ≡ take (length out.old) (take at out.old ++ more.now) }
+    ensures end { result ≡ length (take (length out.old) (take at out.old ++ more.now)) }
+    ensures size { length out.new ≡ length out.old }
+{
+    let start = within(at, out);
+    let fits = first(more, out.len() - start);
+    let end = start + fits.len();
+    out[start..end].copy_from_slice(fits);
+    end
 }
