@@ -4,6 +4,7 @@
 ghost use Rattle.std.specs.Prelude.{◌≡◌, ◌≤◌, length, Some};
 ghost use Rattle.rules.specs.Limits.{reply_bytes_min};
 ghost use Rattle.rules.specs.Messages.{station};
+ghost use Rattle.rules.specs.Messages as rules;
 ghost use Rattle.rules.specs.Step.{says};
 ghost use Rattle.record_steps.specs.Answers.{answer_of};
 ghost use Rattle.answers.specs.Answered.{Spoken, Handles};
@@ -39,23 +40,30 @@ pub fn reply_with<M: Written>(message: M, reply: &mut [u8]) -> Reply
     }
 }
 
+// An ACK of a result, with a number beside it, about a kind: each as it is given.
+pub fn ack_of(res: u8, number: u32, kind: u8, to: Station, reply: &mut [u8]) -> Reply
+    requires { reply_bytes_min ≤ length reply.old }
+    ensures { Spoken (says (rules.ack (station to.system to.component) res kind number)) reply.old reply.new (Some result) }
+{
+    let message = wire::Ack {
+        system: to.system,
+        component: to.component,
+        result: res,
+        kind,
+        number,
+    };
+    reply_with(message, reply)
+}
+
 // An ACK that accepts, with a plan number, or says a fault.
 pub fn ack(res: Result<u32, Fault>, kind: u8, to: Station, reply: &mut [u8]) -> Reply
     requires { reply_bytes_min ≤ length reply.old }
     ensures { Spoken (answer_of (Say.Ack res) (station to.system to.component) kind) reply.old reply.new (Some result) }
 {
-    let (result, number) = match res {
-        Ok(number) => (ACCEPTED, number),
-        Err(fault) => (fault.code(), 0),
-    };
-    let message = wire::Ack {
-        system: to.system,
-        component: to.component,
-        result,
-        kind,
-        number,
-    };
-    reply_with(message, reply)
+    match res {
+        Ok(number) => ack_of(ACCEPTED, number, kind, to, reply),
+        Err(fault) => ack_of(fault.code(), 0, kind, to, reply),
+    }
 }
 
 // What is said, written as the reply, where anything is.
