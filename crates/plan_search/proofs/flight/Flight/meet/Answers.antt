@@ -9,6 +9,7 @@ use lib.ListN.{take, drop, drop_of_length-le}
 use borrow.Author.Rules.{rules}
 use Rattle.rules.specs.Items.{jumps_among}
 use Rattle.rules.specs.NextCommand.{meets, search_from}
+use Rattle.limits.specs.Kinds.{kind_number}
 use Rattle.places.specs.KindItems.{first_items}
 use Rattle.places.specs.declared.items.Items.{Items}
 use Rattle.plan_search.specs.declared.Met.{Met}
@@ -23,7 +24,7 @@ module _ (home : Bool) (items : Items) (len : ℕ) (counts : List ℕ) (n before
     where
       go : Dec (len < n) → meets home len counts (drop n (first_items items len)) n before ≡ search_from home (first_items items len) counts n
       go (no most) =
-          ap (meets home len counts (drop n (first_items items len)) n) (eb ∙ ap jumps_among (sym (items_until items len n (omega arith))))
+          ap (meets home len counts (drop n (first_items items len)) n) (eb ∙ ap jumps_among (sym (items_until items.store.now items.half (kind_number items.kind) len n (omega arith))))
           ∙ ap (λ (size : ℕ). meets home size counts (drop n (first_items items len)) n (jumps_among (take n (first_items items len)))) (sym (items_long items len))
       go (yes past) = rw (drop_of_length-le (first_items items len) {i = n} (omega (arith, items_long items len)))
 

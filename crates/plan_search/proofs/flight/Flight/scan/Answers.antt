@@ -10,6 +10,7 @@ use lib.ListN.{drop, drop_of_length-le}
 use Rattle.rules.specs.Payload.{Bytes}
 use Rattle.rules.specs.Messages.{item_in}
 use Rattle.rules.specs.NextCommand.{meets}
+use Rattle.limits.specs.Kinds.{kind_number}
 use Rattle.places.specs.KindItems.{item_with, first_items}
 use Rattle.places.specs.declared.items.Items.{Items}
 use Rattle.command.specs.declared.Command.TheVariants.{Finished}
@@ -26,7 +27,7 @@ module _ (home : Bool) (items : Items) (len : ℕ) (counts : List ℕ) (n j : �
     one_step : all ≡ unwrap_or look (met_from home items len counts (n + 1) (j + 1))
     one_step =
         is
-        ∙ ap (λ (l : List Bytes). met_for (meets home len counts l n j)) (items_from items len n below)
+        ∙ ap (λ (l : List Bytes). met_for (meets home len counts l n j)) (items_from items.store.now items.half (kind_number items.kind) len n below)
         ∙ meets_one home len counts (item_with items n) (drop (suc n) (first_items items len)) n j
         ∙ ap (λ (l : Option Met). unwrap_or l (met_from home items len counts (suc n) (suc j))) (sym looked)
         ∙ ap (λ (k : ℕ). unwrap_or look (met_from home items len counts k (suc j))) (sym (add-one n))
