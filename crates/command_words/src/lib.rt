@@ -29,7 +29,7 @@ fn value_bytes(x: f32) -> [u8; 4]
     bits(x).to_be_bytes()
 }
 
-// A command's word and numbers.
+// A command's word and numbers. A row of `rows` begins with one letter, and its numbers may be none.
 fn put_numbers(text: &mut Text, word: &[u8], list: &[u64])
     ensures { Adds ((word.now ++ spaced list.now) ++ ascii "\n") text.old text.new }
 {

@@ -135,7 +135,7 @@ fn poked_counts(counts: [u16; JUMP_COUNTS], field: u8, index: u8, value: u32) ->
     after
 }
 
-// The state with one number set; a value is cut to the number's width.
+// The state with one number set; a value is cut to the number's width. The field and the index are a record's bytes, which may be any.
 #[tactic(auto, unfolding(crate::specs::Pokes::poked_state))]
 pub fn poked(state: State, field: u8, index: u8, value: u32) -> State
     ensures { result ≡ poked_state state field index value }

@@ -12,15 +12,13 @@ use text::Text;
 // What a reply array holds before a call.
 pub const REPLY_FILL: u8 = 0xA5;
 
-// Whether all bytes are what a reply array was filled with. All are looked at: the compiler makes a loop wide that does not leave early, and not `all`.
+// Whether all bytes are what a reply array was filled with. All are looked at: a fold that does not leave early is one that the compiler makes wide.
 fn filled(bytes: &[u8]) -> bool
     ensures { result ≡ Lines·untouched bytes.now }
 {
-    let mut same = true;
-    for byte in bytes {
-        same = same & (*byte == REPLY_FILL);
-    }
-    same
+    bytes
+        .iter()
+        .fold(true, |same, byte| same & (*byte == REPLY_FILL))
 }
 
 // Whether the bytes of a reply array from len on are what they were before the call.
@@ -54,7 +52,7 @@ fn put_end(text: &mut Text, clean: bool)
     }
 }
 
-// What a message or a timer call returned, and the reply. Outcomes are numbers here: the definitions of lines tell any.
+// What a message or a timer call returned, and the reply. They are numbers here, an outcome, an id and a length beside an array: the definition of the line tells any.
 pub fn put_served(text: &mut Text, letter: u8, outcome: u8, id: u32, len: usize, reply: &[u8])
     ensures { Adds (served_line letter outcome id len reply.now) text.old text.new }
 {
