@@ -71,7 +71,7 @@ const STARTED: Run = Run {
     started: 0,
 };
 
-// An upload that runs keeps its numbers.
+// Field 3 is whether an upload runs: one that is set running while it does keeps its numbers. Every other field is a number of an upload that runs.
 #[tactic(auto, unfolding(crate::specs::Pokes::poked_upload, crate::specs::Pokes::poked_run))]
 fn poked_upload(upload: Option<Run>, field: u8, value: u32) -> Option<Run>
     ensures { result ≡ poked_upload upload field value }
