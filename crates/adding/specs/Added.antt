@@ -19,6 +19,10 @@ pub record Adds (more : List ℕ) (before after : Filled) : Type 0 where
   pub text : after.text ≡ before.text ++ take before.left more
   pub left : after.left ≡ before.left - length more
 
+-- what stands in a slice before a place, and more behind it, as far as the slice has room
+abbrev pub added : List ℕ → ℕ → List ℕ → List ℕ
+added before at more = take (length before) (take at before ++ more)
+
 -- the texts of each of a list, one after another
 unfoldable pub each : {A : Type 0} → (A → List ℕ) → List A → List ℕ
 each text [] = []

@@ -2,7 +2,7 @@
 use Rattle.std.specs.Prelude.{ℕ, zero, suc, ◌+◌, ◌-◌, ◌<◌, ◌≤◌, min, ◌≡◌, refl, List, [], ◌∷◌, ◌++◌, length, take, get_or}
 use Rattle.std.proofs.Common.{ap, sym, ◌∙◌, append_assoc, append-nil, add-one, arith, length-take, length-append, take_all, take-suc}
 use Rattle.std.proofs.Math.Seq.{take-nil}
-use Rattle.adding.specs.Added.{Filled, size_of, Adds, each}
+use Rattle.adding.specs.Added.{Filled, size_of, Adds, added, each}
 use Rattle.adding.specs.Parts.{front_of}
 
 take_both : (n : ℕ) (a b : List ℕ) → take n a ++ take (n - length a) b ≡ take n (a ++ b)
@@ -12,7 +12,7 @@ take_both (suc n) (x ∷ a) b = let less : suc n - suc (length a) ≡ n - length
 
 -- what stands behind the first of a list, as far as the list goes
 pub behind
-    : (at start : ℕ) (l more : List ℕ) → start ≡ min at (length l) → take start l ++ take (length l - start) more ≡ take (length l) (take at l ++ more)
+    : (at start : ℕ) (l more : List ℕ) → start ≡ min at (length l) → take start l ++ take (length l - start) more ≡ added l at more
 behind at start l more is =
     let n : length (take start l) ≡ start = omega (arith, length-take start l) in
     let all : take (length l) (take start l) ≡ take start l = take_all (length l) (take start l) (omega arith) in

@@ -3,8 +3,8 @@
 
 mod parts;
 
-ghost use Rattle.std.specs.Prelude.{[], ◌∷◌, ◌≡◌, ◌-◌, ◌≤◌, ◌++◌, length, take};
-ghost use Rattle.adding.specs.Added.{Filled, emptied, size_of, Adds};
+ghost use Rattle.std.specs.Prelude.{[], ◌∷◌, ◌≡◌, ◌-◌, ◌≤◌, length, take};
+ghost use Rattle.adding.specs.Added.{Filled, emptied, size_of, Adds, added};
 
 pub use parts::{first, part, within};
 use std::marker::Model;
@@ -64,17 +64,14 @@ impl<'a> Text<'a> {
     pub fn put(&mut self, more: &[u8])
         ensures { Adds more.now self.old self.new }
     {
-        let fits = first(more, self.room());
-        let end = self.len + fits.len();
-        self.bytes[self.len..end].copy_from_slice(fits);
-        self.len = end;
+        self.len = put_at(self.bytes, self.len, more);
     }
 }
 
-// Where the text ends once more stands behind a slice's first bytes, as far as the slice goes.
+// Puts more behind a slice's first bytes, as far as the slice goes, and answers where the text then ends.
 pub fn put_at(out: &mut [u8], at: usize, more: &[u8]) -> usize
-    ensures text { take result out.new ≡ take (length out.old) (take at out.old ++ more.now) }
-    ensures end { result ≡ length (take (length out.old) (take at out.old ++ more.now)) }
+    ensures text { take result out.new ≡ added out.old at more.now }
+    ensures end { result ≡ length (added out.old at more.now) }
     ensures size { length out.new ≡ length out.old }
 {
     let start = within(at, out);

@@ -1,5 +1,5 @@
 -- `adding::put_at` meets its contract.
-use Rattle.std.specs.Prelude.{◌++◌, take, List, ℕ, length, ◌+◌}
+use Rattle.std.specs.Prelude.{ℕ, List, ◌++◌, take}
 use Rattle.std.proofs.Common.{arith, ap, ◌∙◌}
 use Rattle.std.proofs.lemmas.Slice.{take-put_mid}
 use Rattle.adding.specs.Laws.{behind}
