@@ -81,14 +81,12 @@ impl Flight<'_> {
 
     // From item n on, with j jumps before it.
     fn scan(self, counts: [u16; JUMP_COUNTS], from: u16, before: u16) -> Met
+        requires { before ≤ from }
         ensures { result ≡ met_for (meets self.entry.home self.entry.len counts (drop from (flight_items self.entry)) from before) }
     {
-        for n in from..self.len {
-            if let Some(met) = self.look_at(counts, n, before + (n - from)) {
-                return met;
-            }
-        }
-        Met::Ends(Command::Finished)
+        (from..self.len)
+            .find_map(|n| self.look_at(counts, n, before + (n - from)))
+            .unwrap_or(Met::Ends(Command::Finished))
     }
 
     // What a search from item n meets.

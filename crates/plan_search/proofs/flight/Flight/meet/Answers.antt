@@ -1,13 +1,15 @@
 -- The jumps before item n are those among the plan's items before it; past the plan's end nothing is met, whatever stands before.
-use Prim.Native.Nat.{ℕ, ◌<◌}
+use Prim.Native.Nat.{ℕ, suc, ◌≤◌, ◌<◌}
 use native.Mathlib.Omega.{arith}
 use native.Mathlib.Decide.{dec_lt}
 use mathlib.Core.Path.{◌≡◌, sym, ap, ◌∙◌}
-use mathlib.Core.List.{List}
-use mathlib.Core.Bool.{Bool}
-use lib.ListN.{take, drop, drop_of_length-le}
+use mathlib.Core.List.{List, [], ◌∷◌}
+use mathlib.Core.Bool.{Bool, true, false, cond}
+use lib.ListN.{take, drop, length, drop_of_length-le}
 use borrow.Author.Rules.{rules}
-use Rattle.rules.specs.Items.{jumps_among}
+use Rattle.rules.specs.Payload.{Bytes}
+use Rattle.rules.specs.Messages.{item_in}
+use Rattle.rules.specs.Items.{is_jump, jumps_among}
 use Rattle.rules.specs.NextCommand.{meets, search_from}
 use Rattle.limits.specs.Kinds.{kind_number}
 use Rattle.places.specs.KindItems.{first_items}
@@ -30,6 +32,21 @@ module _ (home : Bool) (items : Items) (len : ℕ) (counts : List ℕ) (n before
 
   met_there : (met : Met) → met ≡ met_for (meets home len counts (drop n (first_items items len)) n before) → met ≡ met_for (search_from home (first_items items len) counts n)
   met_there met e = e ∙ ap met_for from_there
+
+-- there are no more jumps than items
+among_most : (bs : List Bytes) → jumps_among bs ≤ length bs
+unfolding jumps_among
+among_most [] = omega arith
+among_most (b ∷ bs) = go (is_jump (item_in b)) (among_most bs)
+  where
+    go : (t : Bool) → jumps_among bs ≤ length bs → cond t (suc (jumps_among bs)) (jumps_among bs) ≤ suc (length bs)
+    go true h = omega (arith, h)
+    go false h = omega (arith, h)
+
+pub scan-requires : goal.scan-requires
+scan-requires c =
+    let most = among_most (first_items c.args.self.items c.args.n) in
+    omega (arith, most, items_long c.args.self.items c.args.n, c.jumps-before.ensures)
 
 pub returns : goal.returns
 returns c = search (met_there, rules)
