@@ -3,7 +3,7 @@
 use Prim.Native.Nat.{ℕ, ◌≤◌}
 use mathlib.Core.Path.{◌≡◌, refl, sym, ap, ap₂, subst, ◌∙◌}
 use mathlib.Core.Bool.{Bool, true}
-use lib.ListN.{length, get_or}
+use lib.ListN.{length}
 use borrow.Author.Tests.{leb-true}
 use Rattle.rules.specs.Limits.{flight, fence, rally, kinds, store_words, reply_bytes_min}
 use Rattle.std.specs.Prelude.{Option, Some, Result, Ok, Err, IfOk}
@@ -23,7 +23,7 @@ use Rattle.plan.specs.declared.Plan.{Plan}
 use Rattle.rule_laws.specs.Brought.{request_kind}
 use Rattle.places.specs.Forms.{Store, words}
 use Rattle.places.proofs.Lawful.{words_lawful}
-use Rattle.plan.specs.View.{empty_plan, plan_of, view}
+use Rattle.plan.specs.View.{plan_of, view}
 use Rattle.ranges.specs.Ranges.{plans_ranged, all_ranged, in_range_lem}
 use Rattle.ranges.specs.Ranged.{plans_ranged_lem}
 use Rattle.refusal.specs.Refusals.{refusal_of, request_of, HeadRead, HeardMessage, message_heard}
@@ -32,7 +32,7 @@ use Rattle.upload.specs.declared.Effect.{Effect}
 use Rattle.upload.specs.declared.Effect.TheVariants.{Turns, Renews, Changes}
 use Rattle.answers.specs.declared.Handled.{Handled}
 use Rattle.protocol.specs.Handlers.{DoneBy}
-use Rattle.record_steps.specs.Doing.{IsPlanOf, message_done}
+use Rattle.record_steps.specs.Doing.{message_done}
 use Rattle.refine.specs.Steps.{EffectOk, message_effect, message_steps}
 use Rattle.refine.specs.Messages.{message_agrees}
 use Rattle.own_calls.specs.Calls.{Serves, served_result, refused_serves}
@@ -83,11 +83,7 @@ module _ (st : State) (s : Store) (b : Bytes) (own from : Station) (id : ℕ) (p
             ∙ sym (ap₂ (λ (k : ℕ) (m : Message). request from clock k (request_of m)) (ap (λ (h : Head). h.kind) head) own_bytes);
       }
 
--- the plan at the place of a kind is that of the kind
-pub plan_at_lem : (st : State) (kind place : ℕ) → (kind ≤ rally → place ≡ kind) → IsPlanOf kind (get_or st.plans place empty_plan) st.plans
-plan_at_lem st kind place stands known = ap (plan_of st) (stands known)
-
--- what the handler did, and the place at which the plan of the kind stands
+-- what the handler did
 module _ (st : State) (s : Store) (b : Bytes) (own from : Station) (id : ℕ) (p : Bytes) (clock : ℕ) (got : Received) (taken : MessageTaken st s b own from id p clock got)
     (s' : Store) (b' : Bytes) (h : Handled)
     (by :

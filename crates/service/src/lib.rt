@@ -2,7 +2,7 @@
 // caller, and of the functions below them none takes or gives the state, which `ranges::ranged` is lent for reading. What each promises is `Serves` of own_calls/specs/Calls.antt, over the rules' own step.
 #![tactic(auto)]
 
-ghost use Rattle.std.specs.Prelude.{◌≡◌, ◌≤◌, ◌<◌, length};
+ghost use Rattle.std.specs.Prelude.{◌≡◌, ◌≤◌, length};
 ghost use Rattle.rules.specs.Limits as limits;
 ghost use Rattle.rules.specs.Limits.{kinds};
 ghost use Rattle.rules.specs.Messages.{station};
@@ -11,7 +11,7 @@ ghost use Rattle.plan.specs.declared.Plan.{Plan};
 ghost use Rattle.upload.specs.Effects.{applied};
 ghost use Rattle.own_calls.specs.Calls.{Serves, served_result};
 
-use limits::{FLIGHT, JUMP_COUNTS, Kind, NoKind};
+use limits::{FLIGHT, JUMP_COUNTS};
 use message_table::receive;
 use plan::{State, Station};
 use protocol::answer;
@@ -25,16 +25,6 @@ pub use plan::fresh;
 
 // A timer call and "command done", and what the calls return.
 pub use own_calls::{Advanced, Served, advance, timer};
-
-// The place of a kind's plan among the plans; any other kind has some place.
-fn place_of(kind: u8) -> usize
-    ensures { (result < length kinds) × (kind ≤ limits.rally → result ≡ kind) }
-{
-    match Kind::try_from(kind) {
-        Ok(kind) => kind as usize,
-        Err(NoKind) => 0,
-    }
-}
 
 // What a handler did, put into the state. A plan that is put in is of a known kind.
 fn apply(state: &mut State, kind: u8, effect: Effect)
@@ -115,10 +105,8 @@ pub fn message(
     };
     let from = Station { system, component };
     let kind = got.head.kind;
-    let k = place_of(kind);
     let done = answer(
         state.home,
-        state.plans[k],
         &state.plans,
         state.current,
         store,

@@ -2,6 +2,7 @@
 use Prim.Native.Nat.{ℕ, ◌<◌}
 use mathlib.Core.Path.{◌≡◌, refl}
 use native.Mathlib.Omega.{arith}
+use borrow.Author.Rules.{rules}
 use mathlib.Core.List.{List}
 use lib.ListN.{length}
 use Rattle.std.proofs.lemmas.List.{get_or_past}
@@ -19,5 +20,5 @@ above : (ps : List Plan) (kind : ℕ) (from : Station) (result : ℕ) → length
 unfolding ack_turned own_upload
 above ps kind from result three more = rw (get_or_past ps kind empty_plan (omega arith)) refl
 
-pub returns-then-kind-gt-RALLY : goal.returns-then-kind-gt-RALLY
-returns-then-kind-gt-RALLY c ps three of = above ps _ _ _ three c.if-kind-gt-RALLY.true
+pub returns-in-Err : goal.returns-in-Err
+returns-in-Err c = search (above, rules)

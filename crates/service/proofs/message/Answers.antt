@@ -4,7 +4,7 @@ use lib.ListN.{length}
 use Rattle.rules.specs.Limits.{kinds}
 use Rattle.rules.specs.Messages.{station}
 use borrow.Author.Rules.{rules}
-use Rattle.service.proofs.Ways.{MessageTaken, message_refused, message_taken, plan_at_lem, message_serves, known_turned, known_renewed, known_changed}
+use Rattle.service.proofs.Ways.{MessageTaken, message_refused, message_taken, message_serves, known_turned, known_renewed, known_changed}
 use Rattle.service.proofs.message.Goals as goal
 
 pub returns-in-Err : goal.returns-in-Err
@@ -18,8 +18,7 @@ answer-done-requires c =
     c.args.clock c.in-Ok.got =
     message_taken _ _ _ _ _ _ _ _ _ _ _ c.ranged-in_range.ensures c.receive-received.ensures c.message_refusal-verdict.ensures.outcome
     c.in-Ok.got c.in-Ok.is c.message_refusal-verdict.ensures.given three in
-    let place = c.place_of-k in
-    (plan_at_lem c.args.state c.in-Ok.got.head.kind place.result place.ensures.1, t.plans, t.long, t.room, t.read)
+    (t.plans, t.long, t.room, t.read)
 
 pub apply-requires : goal.apply-requires
 apply-requires c =
