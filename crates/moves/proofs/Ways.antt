@@ -1,8 +1,8 @@
 -- The two ways of the move: refused, and done.
-use Prim.Native.Nat.{ℕ, ◌≤◌}
+use Prim.Native.Nat.{ℕ, ◌<◌, ◌≤◌}
 use native.Mathlib.Omega.{arith}
 use mathlib.Core.Path.{◌≡◌, refl, sym, ap, ◌∙◌}
-use mathlib.Core.List.{[], ◌∷◌}
+use mathlib.Core.List.{List, [], ◌∷◌}
 use mathlib.Core.Bool.{Bool, true}
 use lib.ListN.{length, get_or}
 use borrow.Author.Tests.{le-leb}
@@ -79,7 +79,11 @@ module _ (st : State) (old new : Store) (ranged : Bool) (outcome : ℕ)
 
     -- the state and the store as the code has them
     pub moves :
-        (p q r : Plan) (new' : Store) → p ≡ ended (plan_of st flight) → q ≡ ended (plan_of st fence) → r ≡ ended (plan_of st rally)
+        (ps : List Plan) (new' : Store) → length ps ≡ 3 → ((i : ℕ) → i < 3 → get_or ps i empty_plan ≡ ended (get_or st.plans i empty_plan))
         → new' ≡ moved_plans old new (plan_of st flight) (plan_of st fence) (plan_of st rally)
-        → MovesToWords st old new (record { plans = p ∷ q ∷ r ∷ []; current = st.current; begun = st.begun; home = st.home; counts = st.counts }) new' outcome
-    moves p q r new' ep eq er es = rw (ep, eq, er, es) moves_all
+        → MovesToWords st old new (record { plans = ps; current = st.current; begun = st.begun; home = st.home; counts = st.counts }) new' outcome
+    moves (p ∷ q ∷ r ∷ []) new' long at es = rw (at 0 (omega arith), at 1 (omega arith), at 2 (omega arith), es) moves_all
+    moves [] new' long at es = absurd (omega arith)
+    moves (p ∷ []) new' long at es = absurd (omega arith)
+    moves (p ∷ q ∷ []) new' long at es = absurd (omega arith)
+    moves (p ∷ q ∷ r ∷ s ∷ ps) new' long at es = absurd (omega arith)

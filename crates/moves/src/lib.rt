@@ -105,10 +105,11 @@ pub fn to_words(state: State, old: &[u8], store: &mut [u32]) -> Moved
         };
     }
     move_plans(old, store, &state);
-    let [flight, fence, rally] = state.plans;
-    let plans = [ended(flight), ended(fence), ended(rally)];
     Moved {
-        state: State { plans, ..state },
+        state: State {
+            plans: state.plans.map(ended),
+            ..state
+        },
         moved: Ok(()),
     }
 }

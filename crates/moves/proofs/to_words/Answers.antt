@@ -1,5 +1,6 @@
 -- The move is refused, or the three plans are moved and every upload ends (`Ways`).
-use Rattle.std.proofs.Common.{refl}
+use Rattle.std.proofs.Common.{refl, rules}
+use Rattle.plan.specs.View.{empty_plan}
 use Rattle.moves.proofs.Ways.{not_moved, refused, facts, plans_in_range, moves}
 use Rattle.moves.proofs.to_words.Goals as goal
 
@@ -14,5 +15,6 @@ move_plans-requires c = let a = c.args in
 
 pub returns : goal.returns
 returns c = let a = c.args in
+    let of = c.map.ensures.items in
     moves a.state a.old.now a.store.now _ _ c.ranged.ensures c.in_default.ensures refl
-    _ _ _ _ c.ended.ensures c.ended-2.ensures c.ended-3.ensures c.move_plans.ensures
+    _ _ of.long (λ i low. let h = of.at i empty_plan empty_plan low in search rules) c.move_plans.ensures
