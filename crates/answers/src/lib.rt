@@ -74,6 +74,7 @@ pub fn speak(what: Say, kind: u8, to: Station, reply: &mut [u8]) -> Option<Reply
     match what {
         Say::Silent => None,
         Say::Ack(res) => Some(ack(res, kind, to, reply)),
+        Say::AckOf(res, number) => Some(ack_of(res, number, kind, to, reply)),
         Say::Ask(seq) => {
             let message = wire::RequestInt {
                 seq,

@@ -9,11 +9,13 @@ pub mod turns;
 pub mod updates;
 pub mod uploads;
 
-// What a handler says to a station about its kind: nothing, an ACK that accepts with a plan number or says a fault, or a request of an item.
+// What a handler says to a station about its kind: nothing, an ACK that accepts with a plan number or says a fault, an ACK of any result with any number, or a
+// request of an item.
 #[derive(Clone, Copy)]
 pub enum Say {
     Silent,
     Ack(Result<u32, Fault>),
+    AckOf(u8, u32),
     Ask(u16),
 }
 
