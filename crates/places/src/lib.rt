@@ -3,9 +3,10 @@
 
 mod items;
 
-ghost use Rattle.std.specs.Prelude.{◌≡◌, ◌+◌, ◌≤◌, ◌<◌, length};
+ghost use Rattle.std.specs.Prelude.{◌≡◌, ◌+◌, ◌≤◌, ◌<◌, length, get_or};
 ghost use Rattle.rules.specs.Limits.{size_of, first_place_of, item_words};
 ghost use Rattle.rules.specs.Messages.{item_in};
+ghost use Rattle.rules.specs.Words.{last_word, command_in};
 ghost use Rattle.rules.specs.Items.{jumps_among};
 ghost use Rattle.limits.specs.Kinds.{kind_number};
 ghost use Rattle.places.specs.Part.{put};
@@ -71,22 +72,37 @@ pub fn put_item(store: &mut [u32], at: usize, item: [u32; ITEM_WORDS])
 
 const LAST_WORD: usize = ITEM_WORDS - 1;
 
+// The command of the item that begins at `at`.
+pub fn command_at(store: &[u32], at: usize) -> u16
+    requires { at + item_words ≤ length store.now }
+    ensures { result ≡ command_in (get_or store.now (at + last_word) 0) }
+{
+    (store[at + LAST_WORD] % FRAME_UNIT) as u16
+}
+
+// The bit pattern of its param 1, the first word.
+pub fn param1_at(store: &[u32], at: usize) -> u32
+    requires { at + item_words ≤ length store.now }
+    ensures { result ≡ get_or store.now at 0 }
+{
+    store[at]
+}
+
 impl Items<'_> {
     // The command of the item with a number.
     pub fn command(self, n: u16) -> u16
         requires { n < size_of (kind_number self.kind) }
         ensures { result ≡ (item_in (item_with self.entry n)).command }
     {
-        let at = place_at(self.kind, self.half, n);
-        (self.store[at + LAST_WORD] % FRAME_UNIT) as u16
+        command_at(self.store, place_at(self.kind, self.half, n))
     }
 
-    // The bit pattern of its param 1, the first word.
+    // The bit pattern of its param 1.
     pub fn param1(self, n: u16) -> u32
         requires { n < size_of (kind_number self.kind) }
         ensures { result ≡ (item_in (item_with self.entry n)).param1 }
     {
-        self.store[place_at(self.kind, self.half, n)]
+        param1_at(self.store, place_at(self.kind, self.half, n))
     }
 
     // How many of the first n items have a command.
