@@ -1,10 +1,9 @@
 -- The lines of a call script. "Every line ends in LF. Fields are parted by one space. Numbers are decimal without leading zeros, except
 -- where hex is named. Hex is upper case, two digits a byte, no spaces."
-use Rattle.std.specs.Prelude.{ℕ, Bool, true, false, ◌&&◌, cond, List, [], ◌∷◌, ◌++◌, eqb, take, drop, Option, Result, Ok, Err}
+use Rattle.std.specs.Prelude.{ℕ, Bool, true, false, ◌&&◌, cond, List, [], ◌∷◌, ◌++◌, eqb, take, drop, Result, Ok, Err}
 use Rattle.text.specs.Words.{ascii}
 use Rattle.text.specs.Digits.{hex}
 use Rattle.rows.specs.Rows.{begun, row}
-use Rattle.script.specs.declared.Record.{Record}
 use Rattle.script.specs.declared.kinds.Stop.{Stop}
 use Rattle.script.specs.declared.kinds.Stop.TheVariants.{Cut, Bad}
 use Rattle.command.specs.declared.Command.{Command}
@@ -38,7 +37,7 @@ unfoldable pub moved_line : (outcome : ℕ) → List ℕ
 moved_line outcome = row 118 (outcome ∷ [])
 
 -- "the line `? TYPE`, and the program stops. A record cut by the end of input: `? cut`."
-unfoldable pub stop_text : Result (Option Record) Stop → List ℕ
+unfoldable pub stop_text : {A : Type 0} → Result A Stop → List ℕ
 stop_text (Ok next) = []
 stop_text (Err Cut) = ascii "? cut\n"
 stop_text (Err (Bad kind)) = row 63 (kind ∷ [])

@@ -6,7 +6,7 @@ ghost use Rattle.adding.specs.Added.{Adds};
 ghost use Rattle.lines.specs.Lines.{untouched as Lines·untouched, reply_text, marked_end, served_line, done_line, moved_line, stop_text};
 
 use command::Command;
-use script::{Record, Stop};
+use script::Stop;
 use text::Text;
 
 // What a reply array holds before a call.
@@ -78,9 +78,9 @@ pub fn put_moved(text: &mut Text, outcome: u8)
     rows::put_row(text, b'v', &[outcome as u64]);
 }
 
-// Why a script stops, where that is not its end.
+// Why a script stops, where that is not its end: nothing is told of what stands next, of any type.
 #[tactic(auto, unfolding(crate::specs::Lines::stop_text))]
-pub fn put_stop(text: &mut Text, next: Result<Option<Record>, Stop>)
+pub fn put_stop<T: Copy>(text: &mut Text, next: Result<T, Stop>)
     ensures { Adds (stop_text next) text.old text.new }
 {
     match next {

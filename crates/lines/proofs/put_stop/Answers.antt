@@ -7,4 +7,4 @@ use Rattle.lines.proofs.put_stop.Goals as goal
 
 pub returns-in-Err-Cut : goal.returns-in-Err-Cut
 unfolding stop_text
-returns-in-Err-Cut c = let cut : c.args.next ≡ Err Cut = search rules in adds_as stop_text _ _ cut c.put.ensures
+returns-in-Err-Cut g c = let cut : c.args.next ≡ Err Cut = search rules in adds_as stop_text _ _ cut c.put.ensures
