@@ -1,8 +1,8 @@
 -- An item's step in two parts: the judgement, which reads the store, and what follows from it. `turned_judged` has them as `item_turned`.
-use Rattle.std.specs.Prelude.{ℕ, ◌≡◌, refl, Bool, true, false, not, cond, ◌==◌, Some, Result, Ok, Err}
+use Rattle.std.specs.Prelude.{ℕ, ◌≡◌, refl, Bool, true, false, not, cond, ◌==◌, Option, None, Some, Result, Ok, Err}
 use Rattle.rules.specs.Limits.{accepted}
 use Rattle.rules.specs.Messages.{Station, Item, same_station}
-use Rattle.limits.specs.declared.Fault.TheVariants.{Denied}
+use Rattle.limits.specs.declared.Fault.TheVariants.{InvalidSequence, Denied}
 use Rattle.plan.specs.declared.Plan.{Plan}
 use Rattle.plan.specs.declared.Run.{Run}
 use Rattle.places.specs.Forms.{Store, words}
@@ -24,10 +24,15 @@ abbrev pub turned_as : Result (Unit {0}) Turned → Store → (kind : ℕ) → P
 turned_as (Err t) s kind p r now item = turn_with t s
 turned_as (Ok v) s kind p r now item = valid_item_turned words (stored words s kind p r item) kind p r now
 
-pub turned_judged : (home : Bool) (s : Store) (kind : ℕ) (p : Plan) (r : Run) (from : Station) (now : ℕ) (item : Item)
+-- of an item beside any upload: where none runs, it is refused
+abbrev pub turned_by : (home : Bool) → Store → (kind : ℕ) → Option Run → Plan → Station → (now : ℕ) → Item → TurnAndStore
+turned_by home s kind None p from now item = turn_with (keeps (Ack (Err InvalidSequence))) s
+turned_by home s kind (Some r) p from now item = turned_as (judged_as home s kind p r from item) s kind p r now item
+
+pub running_judged : (home : Bool) (s : Store) (kind : ℕ) (p : Plan) (r : Run) (from : Station) (now : ℕ) (item : Item)
     → item_turned words home s kind (Some r) p from now item ≡ turned_as (judged_as home s kind p r from item) s kind p r now item
 unfolding item_turned judged_as
-turned_judged home s kind p r from now item =
+running_judged home s kind p r from now item =
     go (not (same_station from (station_in r))) (not (item.seq == r.next)) (not (item_verdict words home s kind p r item == accepted))
   where
     go : (a b c : Bool)
@@ -39,3 +44,9 @@ turned_judged home s kind p r from now item =
     go false true c = refl
     go false false true = refl
     go false false false = refl
+
+pub turned_judged : (home : Bool) (s : Store) (kind : ℕ) (u : Option Run) (p : Plan) (from : Station) (now : ℕ) (item : Item)
+    → item_turned words home s kind u p from now item ≡ turned_by home s kind u p from now item
+unfolding item_turned
+turned_judged home s kind None p from now item = refl
+turned_judged home s kind (Some r) p from now item = running_judged home s kind p r from now item

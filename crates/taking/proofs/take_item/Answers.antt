@@ -54,7 +54,7 @@ module _ (home : Bool) (s : Store) (kind : ℕ) (p : Plan) (r : Run) (from : Sta
   step : (j : Result (Unit {0}) Turned) → j ≡ judged_as home s kind p r from item → item_turned words home s kind p.upload p from now item ≡ turned_as j s kind p r now item
   step j e =
       ap (λ (u : Option Run). item_turned words home s kind u p from now item) is
-      ∙ turned_judged home s kind p r from now item
+      ∙ turned_judged home s kind (Some r) p from now item
       ∙ ap (λ (x : Result (Unit {0}) Turned). turned_as x s kind p r now item) (sym e)
 
 pub returns-in-Err : goal.returns-in-Err
