@@ -1,6 +1,6 @@
 -- The item struct and the rules' item, which has the 32-bit patterns alone.
 use Rattle.std.specs.Prelude.{ℕ, ◌≡◌}
-use Rattle.std.proofs.Common.{refl, sym, ap, ◌∙◌}
+use Rattle.std.proofs.Common.{sym, ap, ◌∙◌}
 use Rattle.rules.specs.Messages as rules
 use Rattle.rules.specs.Values.{float, signed}
 use Rattle.item.specs.declared.Item.{Item}
@@ -23,7 +23,7 @@ patterns item =
       kind = item.kind;
     }
 
--- the struct of an item: "x and y are signed 32-bit, params and z are 32-bit floats", whose values the struct's methods say
+-- "x and y are signed 32-bit, params and z are 32-bit floats": the struct of an item, with its values beside its patterns
 abbrev pub item_for : rules.Item → Item
 item_for i =
     record {
@@ -46,13 +46,6 @@ item_for i =
       frame = i.frame;
       autocontinue = i.autocontinue;
       kind = i.kind;
-      param1_is = refl;
-      param2_is = refl;
-      param3_is = refl;
-      param4_is = refl;
-      z_is = refl;
-      x_is = refl;
-      y_is = refl;
     }
 
 -- the rules' item of these patterns and numbers
@@ -73,7 +66,7 @@ item_with param1 param2 param3 param4 x y z seq command frame autocontinue kind 
       kind = kind;
     }
 
--- ---- the struct of an item keeps the item, and is made of it
+-- ---- the struct of an item keeps the item, and has its values: what a ReadItem tells
 
 pub patterns_of : {item : Item} {i : rules.Item} → item ≡ item_for i → patterns item ≡ i
 patterns_of e = ap patterns e

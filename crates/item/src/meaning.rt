@@ -5,7 +5,7 @@ ghost use Rattle.rules.specs.NextCommand.{repeat_of};
 ghost use Rattle.rules.specs.Values.{float, whole_of, whole_number};
 ghost use Rattle.item.specs.Patterns.{item_for, item_with, patterns};
 
-use crate::Item;
+use crate::{Item, ReadItem};
 use limits::JUMP;
 use values::{NotWhole, float_of, signed_of};
 
@@ -55,26 +55,28 @@ impl Item {
     {
         self.command == JUMP
     }
+}
 
+impl ReadItem {
     // Param 1 as a number: a jump's target, a servo's channel, a vertex's count of vertices. 0 where it is none that is at least 0.
     pub fn number1(self) -> u32
-        ensures { result ≡ whole_number (whole_of (float (patterns self).param1)) }
+        ensures { result ≡ whole_number (whole_of (float (patterns self.plain).param1)) }
     {
-        values::number_of(self.param1())
+        values::number_of(self.plain.param1)
     }
 
     // Param 2 as a number: a servo's pulse. 0 where it is none that is at least 0. Beside the one of param 1, since no caller has a param's number at hand.
     pub fn number2(self) -> u32
-        ensures { result ≡ whole_number (whole_of (float (patterns self).param2)) }
+        ensures { result ≡ whole_number (whole_of (float (patterns self.plain).param2)) }
     {
-        values::number_of(self.param2())
+        values::number_of(self.plain.param2)
     }
 
     // A jump's repeat: 1 where param 2 has no value.
     pub fn repeat(self) -> i32
-        ensures { result ≡ repeat_of (patterns self) }
+        ensures { result ≡ repeat_of (patterns self.plain) }
     {
-        match values::whole_of(self.param2()) {
+        match values::whole_of(self.plain.param2) {
             Ok(times) => times,
             Err(NotWhole::NoValue) => 1,
             Err(NotWhole::Fraction) => 0,

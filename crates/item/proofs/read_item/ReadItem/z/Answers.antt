@@ -1,0 +1,7 @@
+-- The value is its pattern's, by what the item tells.
+use Rattle.std.proofs.Common.{ap}
+use Rattle.item.specs.declared.Item.{Item}
+use Rattle.item.proofs.read_item.ReadItem.z.Goals as goal
+
+pub returns : goal.returns
+returns c = ap (λ (i : Item). i.z) c.args.self.values
