@@ -3,6 +3,7 @@
 ghost use Rattle.std.specs.Prelude.{◌≡◌};
 ghost use Rattle.rules.specs.Layouts.{partial_list_id, set_current_id, request_list_id, count_id, clear_all_id, ack_id, request_int_id, item_int_id};
 ghost use Rattle.rules.specs.Messages.{decode};
+ghost use Rattle.item.specs.Patterns.{item_for, patterns};
 ghost use Rattle.wire.specs.Structs.{partial_list_message, set_current_message, request_list_message, count_message, clear_all_message, ack_message, request_int_message, item_int_message};
 
 use crate::structs::{
@@ -90,7 +91,7 @@ pub fn read_request_int(own: &[u8; OWN_BYTES]) -> RequestInt
 }
 
 pub fn read_item_int(own: &[u8; OWN_BYTES]) -> ItemInt
-    ensures { item_int_message result ≡ decode item_int_id own.now }
+    ensures { (item_int_message result ≡ decode item_int_id own.now) × (result.item ≡ item_for (patterns result.item)) }
 {
     ItemInt {
         system: own[32],
