@@ -8,7 +8,7 @@ ghost use Rattle.item.specs.Patterns.{patterns};
 ghost use Rattle.item_rules.specs.Table.{rule_of, row_of};
 
 use super::table::{ParamRule, Row};
-use item::Item;
+use item::{Item, ReadItem};
 use limits::{Fault, MAX_JUMPS, X_LIMIT, Y_LIMIT};
 
 fn frame_ok(positional: bool, frame: u8) -> bool
@@ -51,8 +51,8 @@ fn param_ok(rule: ParamRule, count: u16, own: u16, x: f32) -> bool
 }
 
 // -2147483648 is compared, never negated.
-fn place_fault(positional: bool, item: Item) -> Result<(), Fault>
-    ensures { result_code result ≡ place_fault positional (patterns item) accepted }
+fn place_fault(positional: bool, item: ReadItem) -> Result<(), Fault>
+    ensures { result_code result ≡ place_fault positional (patterns item.plain) accepted }
 {
     if !positional {
         return Ok(());
@@ -80,10 +80,10 @@ fn room_fault(jumps: u16, item: Item) -> Result<(), Fault>
     Ok(())
 }
 
-pub fn row_fault(row: Row, item: Item, count: u16, own: u16, jumps: u16) -> Result<(), Fault>
-    ensures { result_code result ≡ fault_in (row_of item.command row) count own jumps (patterns item) }
+pub fn row_fault(row: Row, item: ReadItem, count: u16, own: u16, jumps: u16) -> Result<(), Fault>
+    ensures { result_code result ≡ fault_in (row_of item.plain.command row) count own jumps (patterns item.plain) }
 {
-    if !frame_ok(row.positional, item.frame) {
+    if !frame_ok(row.positional, item.plain.frame) {
         return Err(Fault::UnsupportedFrame);
     }
     if !param_ok(row.param1, count, own, item.param1()) {
@@ -93,5 +93,5 @@ pub fn row_fault(row: Row, item: Item, count: u16, own: u16, jumps: u16) -> Resu
         return Err(Fault::InvalidParam2);
     }
     place_fault(row.positional, item)?;
-    room_fault(jumps, item)
+    room_fault(jumps, item.plain)
 }

@@ -9,7 +9,7 @@ ghost use Rattle.rules.specs.Items.{commands, fault_among, not_home, fault};
 ghost use Rattle.limits.specs.Codes.{result_code};
 ghost use Rattle.item.specs.Patterns.{patterns};
 
-use item::Item;
+use item::{Item, ReadItem};
 use limits::{FLIGHT, Fault, WAYPOINT};
 
 // An item that stands where home must stand, and is no waypoint.
@@ -22,15 +22,15 @@ fn not_home(home: bool, item: Item, kind: u8, own: u16) -> bool
 // By the command table.
 fn listed_fault(
     home: bool,
-    item: Item,
+    item: ReadItem,
     kind: u8,
     count: u16,
     own: u16,
     jumps: u16,
 ) -> Result<(), Fault>
-    ensures { result_code result ≡ fault_among (commands home) kind count own jumps (patterns item) }
+    ensures { result_code result ≡ fault_among (commands home) kind count own jumps (patterns item.plain) }
 {
-    let row = table::row_of(home, item.command).ok_or(Fault::Unsupported)?;
+    let row = table::row_of(home, item.plain.command).ok_or(Fault::Unsupported)?;
     if row.kind.number() != kind {
         return Err(Fault::Unsupported);
     }
@@ -41,15 +41,15 @@ fn listed_fault(
 // of every one.
 pub fn verdict(
     home: bool,
-    item: Item,
+    item: ReadItem,
     kind: u8,
     count: u16,
     own: u16,
     jumps: u16,
 ) -> Result<(), Fault>
-    ensures { result_code result ≡ fault home kind count own jumps (patterns item) }
+    ensures { result_code result ≡ fault home kind count own jumps (patterns item.plain) }
 {
-    if not_home(home, item, kind, own) {
+    if not_home(home, item.plain, kind, own) {
         return Err(Fault::Unsupported);
     }
     listed_fault(home, item, kind, count, own, jumps)

@@ -17,7 +17,7 @@ ghost use Rattle.plan_search.specs.Meeting.{met_for, look_as, jump_as};
 
 use command::Command;
 pub use flight::Flight;
-use item::Item;
+use item::ReadItem;
 use limits::{CHANGE_SPEED, DELAY, DISTANCE, FLIGHT, JUMP_COUNTS, SET_SERVO, YAW};
 
 // What a search meets first that is no jump to pass over.
@@ -33,11 +33,11 @@ pub enum Met {
 
 // The answer for item n, which is no jump.
 #[tactic(auto, unfolding(rules::specs::NextCommand::command_of))]
-fn command_of(n: u16, item: Item) -> Command
-    requires { ServoFits (patterns item) }
-    ensures { result ≡ command_for (command_of n (patterns item)) }
+fn command_of(n: u16, item: ReadItem) -> Command
+    requires { ServoFits (patterns item.plain) }
+    ensures { result ≡ command_for (command_of n (patterns item.plain)) }
 {
-    match item.command {
+    match item.plain.command {
         DELAY => Command::Wait(n, item.param1()),
         DISTANCE => Command::Near(n, item.param1()),
         YAW => Command::Turn(n, item.param1()),
@@ -69,11 +69,12 @@ impl Flight<'_> {
         requires { n < self.len }
         ensures { result ≡ look_as self.entry.home self.entry.len counts n j (item_in (item_with self.entry.items n)) }
     {
-        let item = storage::fetch(self.items, n);
+        let plain = storage::fetch(self.items, n);
+        let item = ReadItem { plain };
         if item_rules::verdict(self.home, item, FLIGHT, self.len, n, j).is_err() {
             return Some(Met::Ends(Command::Stuck));
         }
-        if !item.is_jump() {
+        if !plain.is_jump() {
             return Some(Met::Stands(n, command_of(n, item)));
         }
         jump_look(item.repeat(), item.number1() as u16, j, counts[j as usize])

@@ -22,6 +22,7 @@ ghost use Rattle.plan.specs.declared.Plan.{Plan};
 
 use answers::{Handled, ack, only, told};
 use clears::{Covered, clear};
+use item::ReadItem;
 use limits::{Fault, Kind, NoKind};
 use places::size_of;
 use plan::{Plan, Station, flown};
@@ -81,8 +82,8 @@ fn turn(
         }
         // ITEM_INT is the only other message that is read here.
         _ => {
-            let m = wire::read_item_int(own);
-            let turned = take_item(home, plan, store, kind, from, clock, m.item);
+            let plain = wire::read_item_int(own).item;
+            let turned = take_item(home, plan, store, kind, from, clock, ReadItem { plain });
             told(turned, number, from, reply)
         }
     }

@@ -19,7 +19,7 @@ ghost use Rattle.upload.specs.Turns.{turn_with, settled, last_turned, valid_item
 ghost use Rattle.taking.specs.Judging.{judged_as};
 
 use fence::fence_ok;
-use item::Item;
+use item::{Item, ReadItem};
 use limits::{Fault, Kind, MAX_JUMPS};
 use places::Items;
 use plan::{Plan, Run, Station};
@@ -55,25 +55,25 @@ impl Running {
     }
 
     // The result for an item as the next of the upload, whose items taken stand in the half that the plan is not in.
-    fn verdict(self, home: bool, store: &[u32], item: Item) -> Result<(), Fault>
+    fn verdict(self, home: bool, store: &[u32], item: ReadItem) -> Result<(), Fault>
         requires { store_words ≤ length store.now }
-        ensures { result_code result ≡ verdict_on home (kind_number self.kind) (task_in self.run) self.run.next (drop self.run.first (items_in words store.now (not self.plan.half) (kind_number self.kind) self.run.next)) (patterns item) }
+        ensures { result_code result ≡ verdict_on home (kind_number self.kind) (task_in self.run) self.run.next (drop self.run.first (items_in words store.now (not self.plan.half) (kind_number self.kind) self.run.next)) (patterns item.plain) }
     {
-        let before = self.jumps_before(store, item);
+        let before = self.jumps_before(store, item.plain);
         let kind = self.kind.number();
         item_rules::verdict(home, item, kind, self.run.count, self.run.next, before)
     }
 
     // An item from a station: Ok where it is valid and the next; otherwise what it does, which leaves the store as it is.
     #[tactic(auto, using(crate::proofs::Faults::is_accepted), unfolding(crate::specs::Judging::judged_as))]
-    fn judge(self, home: bool, store: &[u32], from: Station, item: Item) -> Result<(), Turned>
+    fn judge(self, home: bool, store: &[u32], from: Station, item: ReadItem) -> Result<(), Turned>
         requires { store_words ≤ length store.now }
-        ensures { result ≡ judged_as home store.now (kind_number self.kind) self.plan self.run (station from.system from.component) (patterns item) }
+        ensures { result ≡ judged_as home store.now (kind_number self.kind) self.plan self.run (station from.system from.component) (patterns item.plain) }
     {
         if from != self.run.from {
             return Err(keeps(Say::Ack(Err(Fault::Denied))));
         }
-        if item.seq != self.run.next {
+        if item.plain.seq != self.run.next {
             return Err(keeps(Say::Ask(self.run.next)));
         }
         if let Err(fault) = self.verdict(home, store, item) {
@@ -175,10 +175,10 @@ pub fn take_item(
     kind: Kind,
     from: Station,
     clock: u32,
-    item: Item,
+    item: ReadItem,
 ) -> Turned
     requires { (store_words ≤ length store.old) × (upload_ranged (size_of (kind_number kind)) plan.len plan.upload ≡ true) }
-    ensures { turn_with result store.new ≡ item_turned words home store.old (kind_number kind) plan.upload plan (station from.system from.component) clock (patterns item) }
+    ensures { turn_with result store.new ≡ item_turned words home store.old (kind_number kind) plan.upload plan (station from.system from.component) clock (patterns item.plain) }
 {
     let Some(run) = plan.upload else {
         return keeps(Say::Ack(Err(Fault::InvalidSequence)));
@@ -187,6 +187,6 @@ pub fn take_item(
     if let Err(turned) = upload.judge(home, store, from, item) {
         return turned;
     }
-    keep(store, kind, !plan.half, run.next, item);
+    keep(store, kind, !plan.half, run.next, item.plain);
     upload.valid_turn(store, clock)
 }

@@ -61,4 +61,4 @@ returns-in_default c =
     let rest = c.in_default.in_default-own.rest in
     let pre = c.requires.own_value in
     let e : c.args.id ≡ item_int_id = item_left c.args.id c.args.own.now pre.0 rest.0.1 pre.1 rest.0.0.0.1 rest.0.0.1 pre.2 pre.3 rest.1 in
-    brings_item _ _ _ _ _ _ _ _ _ _ _ _ c.read_item_int-m.result _ _ e c.read_item_int-m.ensures c.take_item-turned.ensures (rw (← c.number-number.ensures) c.told-in_default.ensures)
+    brings_item _ _ _ _ _ _ _ _ _ _ _ _ c.read_item_int.result _ _ e c.read_item_int.ensures.0 c.take_item-turned.ensures (rw (← c.number-number.ensures) c.told-in_default.ensures)

@@ -52,25 +52,25 @@ module _ (row : Row) (item : Item) (count own jumps : ℕ) (frame : Bool) (frame
         room r none is = left r (is ∙ place_passed row.positional (patterns item) _ none)
 
 pub returns-then-not-frame_ok : goal.returns-then-not-frame_ok
-returns-then-not-frame_ok c = frame_fault _ c.args.item _ _ _ _ c.frame_ok.ensures c.if-not-frame_ok.true
+returns-then-not-frame_ok c = frame_fault _ c.args.item.plain _ _ _ _ c.frame_ok.ensures c.if-not-frame_ok.true
 
 pub returns-then-not-param_ok : goal.returns-then-not-param_ok
 returns-then-not-param_ok c =
-    param1_fault _ c.args.item _ _ _ _ c.frame_ok.ensures c.if-not-frame_ok.false _ c.param1.ensures _ c.param_ok.ensures c.if-not-param_ok.true
+    param1_fault _ c.args.item.plain _ _ _ _ c.frame_ok.ensures c.if-not-frame_ok.false _ c.param1.ensures _ c.param_ok.ensures c.if-not-param_ok.true
 
 pub returns-then-not-param_ok-2 : goal.returns-then-not-param_ok-2
 returns-then-not-param_ok-2 c =
-    param2_fault _ c.args.item _ _ _ _ c.frame_ok.ensures c.if-not-frame_ok.false _ c.param1.ensures _ c.param_ok.ensures c.if-not-param_ok.false
+    param2_fault _ c.args.item.plain _ _ _ _ c.frame_ok.ensures c.if-not-frame_ok.false _ c.param1.ensures _ c.param_ok.ensures c.if-not-param_ok.false
     _ c.param2.ensures _ c.param_ok-2.ensures c.if-not-param_ok-2.true
 
 pub returns-in_err-place_fault : goal.returns-in_err-place_fault
 returns-in_err-place_fault c =
     let e = err_from_is_err_and c.from_residual.result c.from_residual.ensures.1 in
     rw (e.1, e.2)
-    (at_place _ c.args.item _ _ _ _ c.frame_ok.ensures c.if-not-frame_ok.false _ c.param1.ensures _ c.param_ok.ensures c.if-not-param_ok.false
+    (at_place _ c.args.item.plain _ _ _ _ c.frame_ok.ensures c.if-not-frame_ok.false _ c.param1.ensures _ c.param_ok.ensures c.if-not-param_ok.false
     _ c.param2.ensures _ c.param_ok-2.ensures c.if-not-param_ok-2.false _ c.in_err-place_fault.ensures (faulty _))
 
 pub returns : goal.returns
 returns c =
-    room _ c.args.item _ _ _ _ c.frame_ok.ensures c.if-not-frame_ok.false _ c.param1.ensures _ c.param_ok.ensures c.if-not-param_ok.false
+    room _ c.args.item.plain _ _ _ _ c.frame_ok.ensures c.if-not-frame_ok.false _ c.param1.ensures _ c.param_ok.ensures c.if-not-param_ok.false
     _ c.param2.ensures _ c.param_ok-2.ensures c.if-not-param_ok-2.false _ c.in_ok-place_fault.ensures c.room_fault.ensures

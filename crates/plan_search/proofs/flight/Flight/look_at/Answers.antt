@@ -30,4 +30,4 @@ breaks home size counts n j item i r is ef e =
     rw (← judged, ne_eqb (result_code r) accepted (no_acceptance r e))
 
 pub returns-then-is_err : goal.returns-then-is_err
-returns-then-is_err c = breaks _ _ _ _ _ _ _ _ c.fetch-item.ensures c.verdict.ensures (sym c.if-is_err.ensures.value)
+returns-then-is_err c = breaks _ _ _ _ _ _ _ _ c.fetch-plain.ensures c.verdict.ensures (sym c.if-is_err.ensures.value)

@@ -36,10 +36,10 @@ module _ (home : Bool) (s : Store) (kind : ℕ) (p : Plan) (r : Run) (from : Sta
 pub returns-then-item-self : goal.returns-then-item-self
 returns-then-item-self c =
     let a = c.args in
-    out_of_turn a.home a.store.now (kind_number a.self.kind) a.self.plan a.self.run (station a.from.system a.from.component) (patterns a.item) _ c.if-ne.ensures c.if-item-self.true (search rules)
+    out_of_turn a.home a.store.now (kind_number a.self.kind) a.self.plan a.self.run (station a.from.system a.from.component) (patterns a.item.plain) _ c.if-ne.ensures c.if-item-self.true (search rules)
 
 pub returns-in-Err : goal.returns-in-Err
 returns-in-Err c =
     let a = c.args in
     let r = a.self.run in
-    fails a.home a.store.now (kind_number a.self.kind) a.self.plan r (station a.from.system a.from.component) (patterns a.item) c.in-Err.fault _ _ c.if-ne.ensures (omega arith) c.in-Err.ensures c.ended.ensures c.moves.ensures
+    fails a.home a.store.now (kind_number a.self.kind) a.self.plan r (station a.from.system a.from.component) (patterns a.item.plain) c.in-Err.fault _ _ c.if-ne.ensures (omega arith) c.in-Err.ensures c.ended.ensures c.moves.ensures

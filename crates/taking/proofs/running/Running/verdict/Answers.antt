@@ -32,6 +32,6 @@ returns c =
     let r = c.args.self.run in
     let kind = kind_number c.args.self.kind in
     c.verdict.ensures
-    ∙ ap (λ (k : ℕ). fault c.args.home k r.count r.next c.jumps_before-before.result (patterns c.args.item)) c.number-kind.ensures
-    ∙ ap (λ (n : ℕ). fault c.args.home kind r.count r.next n (patterns c.args.item)) c.jumps_before-before.ensures
-    ∙ same_fault c.args.home kind (task_in r) r.next _ (patterns c.args.item) c.args.self.from_start
+    ∙ ap (λ (k : ℕ). fault c.args.home k r.count r.next c.jumps_before-before.result (patterns c.args.item.plain)) c.number-kind.ensures
+    ∙ ap (λ (n : ℕ). fault c.args.home kind r.count r.next n (patterns c.args.item.plain)) c.jumps_before-before.ensures
+    ∙ same_fault c.args.home kind (task_in r) r.next _ (patterns c.args.item.plain) c.args.self.from_start
