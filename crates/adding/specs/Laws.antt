@@ -2,7 +2,9 @@
 use Rattle.std.specs.Prelude.{ℕ, zero, suc, ◌+◌, ◌-◌, ◌<◌, ◌≤◌, min, ◌≡◌, refl, List, [], ◌∷◌, ◌++◌, length, take, get_or}
 use Rattle.std.proofs.Common.{ap, sym, ◌∙◌, append_assoc, append-nil, add-one, arith, length-take, length-append, take_all, take-suc}
 use Rattle.std.proofs.Math.Seq.{take-nil}
-use Rattle.adding.specs.Added.{Filled, size_of, Adds, added, each}
+use Rattle.adding.specs.declared.Text.{Text}
+use Rattle.adding.specs.Added.{Filled, size_of, filled, AddsTo, Adds, each}
+use Rattle.adding.specs.Slices.{added}
 use Rattle.adding.specs.Parts.{front_of}
 
 take_both : (n : ℕ) (a b : List ℕ) → take n a ++ take (n - length a) b ≡ take n (a ++ b)
@@ -22,31 +24,37 @@ behind at start l more is =
     ∙ ap (λ (k : List ℕ). take (length l) (k ++ more)) (front_of at start l is)
 
 -- two texts, one after the other
-pub adds_both : {t u : List ℕ} {before between after : Filled} → Adds t before between → Adds u between after → Adds (t ++ u) before after
-adds_both {t} {u} {before} {between} {after} first second =
+adds_to_both : {t u : List ℕ} {before between after : Filled} → AddsTo t before between → AddsTo u between after → AddsTo (t ++ u) before after
+adds_to_both {t} {u} {before} {between} {after} first second =
     record {
       text = second.text ∙ rw (first.text, first.left, append_assoc, take_both) refl;
       left = second.left ∙ rw first.left (omega (arith, length-append t u));
     }
 
+pub adds_both : {t u : List ℕ} {before between after : Text} → Adds t before between → Adds u between after → Adds (t ++ u) before after
+adds_both first second = record { same = second.same ∙ first.same; more_stands = adds_to_both first.more_stands second.more_stands }
+
 -- a byte and what follows it
-pub adds_after : (b : ℕ) (t : List ℕ) {before between after : Filled} → Adds (b ∷ []) before between → Adds t between after → Adds (b ∷ t) before after
+pub adds_after : (b : ℕ) (t : List ℕ) {before between after : Text} → Adds (b ∷ []) before between → Adds t between after → Adds (b ∷ t) before after
 adds_after b t first second = adds_both first second
 
 -- the text of what is equal
-pub adds_as : {A : Type 0} (text : A → List ℕ) (a b : A) {before after : Filled} → a ≡ b → Adds (text b) before after → Adds (text a) before after
+pub adds_as : {A : Type 0} (text : A → List ℕ) (a b : A) {before after : Text} → a ≡ b → Adds (text b) before after → Adds (text a) before after
 adds_as text a b e adds = rw e adds
 
 -- nothing
-pub adds_nothing : (before : Filled) → Adds [] before before
-adds_nothing before = record { text = rw take-nil (sym (append-nil before.text)); left = omega arith }
+nothing_to : (before : Filled) → AddsTo [] before before
+nothing_to before = record { text = rw take-nil (sym (append-nil before.text)); left = omega arith }
+
+pub adds_nothing : (before : Text) → Adds [] before before
+adds_nothing before = record { same = refl; more_stands = nothing_to (filled before) }
 
 -- where there is room for all of it
-pub adds_all : {more : List ℕ} {before after : Filled} → length more ≤ before.left → Adds more before after → after.text ≡ before.text ++ more
+pub adds_all : {more : List ℕ} {before after : Filled} → length more ≤ before.left → AddsTo more before after → after.text ≡ before.text ++ more
 adds_all {more} {before} {after} room adds = adds.text ∙ ap (λ (l : List ℕ). before.text ++ l) (take_all before.left more room)
 
 -- a buffer keeps its size
-pub adds_size : {more : List ℕ} {before after : Filled} → Adds more before after → size_of after ≡ size_of before
+pub adds_size : {more : List ℕ} {before after : Filled} → AddsTo more before after → size_of after ≡ size_of before
 adds_size {more} {before} {after} adds =
     omega (arith, ap length adds.text, length-append before.text (take before.left more), length-take before.left more, adds.left)
 
@@ -70,7 +78,7 @@ each_both text (x ∷ a) b = ap (λ (k : List ℕ). text x ++ k) (each_both text
 pub each_front : {A : Type 0} (text : A → List ℕ) (l : List A) (i : ℕ) (x : A) → i < length l → each text (take (i + 1) l) ≡ each text (take i l) ++ text (get_or l i x)
 each_front text l i x h = rw (front_more l i x h) (each_more text (take i l) (get_or l i x))
 
-module _ {A : Type 0} (l : List A) (before between after : Filled) (i : ℕ) (x : A) (h : i < length l) where
+module _ {A : Type 0} (l : List A) (before between after : Text) (i : ℕ) (x : A) (h : i < length l) where
   pub put_each_more : (text : A → List ℕ) → Adds (each text (take i l)) before between → Adds (text (get_or l i x)) between after → Adds (each text (take (i + 1) l)) before after
   put_each_more text first second = rw (each_front text l i x h) (adds_both first second)
 
@@ -80,5 +88,5 @@ module _ {A : Type 0} (l : List A) (before between after : Filled) (i : ℕ) (x 
 
 -- at the end it is the whole list
 pub whole_list
-    : {A : Type 0} (text : List A → List ℕ) (l : List A) (before after : Filled) (i : ℕ) → length l ≤ i → Adds (text (take i l)) before after → Adds (text l) before after
+    : {A : Type 0} (text : List A → List ℕ) (l : List A) (before after : Text) (i : ℕ) → length l ≤ i → Adds (text (take i l)) before after → Adds (text l) before after
 whole_list text l before after i most adds = rw (take_all i l most) at adds

@@ -2,3 +2,4 @@
 pub mod Added
 pub mod Laws
 pub mod Parts
+pub mod Slices

@@ -2,52 +2,59 @@
 #![tactic(auto)]
 
 mod parts;
+mod puts;
 
 ghost use Rattle.std.specs.Prelude.{[], ◌∷◌, ◌≡◌, ◌-◌, ◌≤◌, length, take};
-ghost use Rattle.adding.specs.Added.{Filled, emptied, size_of, Adds, added};
 
 pub use parts::{first, part, within};
-use std::marker::Model;
+pub use puts::put_at;
 
-// Text in a lent buffer. What goes past the buffer's end is not kept.
+// Text in a lent buffer, its first bytes. What goes past the buffer's end is not kept.
 #[derive(Drop)]
 pub struct Text<'a> {
-    bytes: &'a mut [u8],
-    len: usize,
-}
-
-impl<'a> Model for Text<'a> {
-    ghost Value = { Filled };
-
-    ghost view = { λ t. record { text = take t.len t.bytes.now; left = length t.bytes.now - t.len } };
-
-    ghost invariant = { λ t. t.len ≤ length t.bytes.now };
+    pub bytes: &'a mut [u8],
+    pub len: usize,
+    pub ghost fits: { len ≤ length bytes.now },
 }
 
 impl<'a> Text<'a> {
+    ghost use Rattle.adding.specs.Added.{Filled, emptied, size_of, filled, Adds};
+
     // No text yet.
     pub fn new(bytes: &'a mut [u8]) -> Text<'a>
-        ensures { result ≡ emptied (length bytes.old) }
+        ensures same { result.bytes.ghost_name ≡ bytes.entry.ghost_name }
+        ensures text { filled result ≡ emptied (length bytes.old) }
     {
         Text { bytes, len: 0 }
     }
 
+    // The text so far are a buffer's first bytes, up to a place or its end.
+    pub fn behind(bytes: &'a mut [u8], at: usize) -> Text<'a>
+        ensures there { result.bytes.ghost_name ≡ bytes.entry.ghost_name }
+        ensures text { (filled result).text ≡ take at bytes.old }
+        ensures left { (filled result).left ≡ length bytes.old - at }
+    {
+        let len = within(at, bytes);
+        Text { bytes, len }
+    }
+
     pub fn as_bytes(&self) -> &[u8]
-        ensures { result.now ≡ self.now.text }
+        ensures { result.now ≡ (filled self.now).text }
     {
         &self.bytes[..self.len]
     }
 
     // How many bytes there is room for behind the text.
     pub fn room(&self) -> usize
-        ensures { result ≡ self.now.left }
+        ensures { result ≡ (filled self.now).left }
     {
         self.bytes.len() - self.len
     }
 
     // The next text begins at the buffer's start.
     pub fn clear(&mut self)
-        ensures { self.new ≡ emptied (size_of self.old) }
+        ensures same { self.new.bytes.ghost_name ≡ self.old.bytes.ghost_name }
+        ensures text { filled self.new ≡ emptied (size_of (filled self.old)) }
     {
         self.len = 0;
     }
@@ -61,22 +68,25 @@ impl<'a> Text<'a> {
         }
     }
 
+    // Two bytes, for which there is one test of room.
+    pub fn put_two(&mut self, two: [u8; 2])
+        ensures { Adds two self.old self.new }
+    {
+        if self.room() < 2 {
+            self.put(&two);
+            return;
+        }
+        self.bytes[self.len] = two[0];
+        self.bytes[self.len + 1] = two[1];
+        self.len += 2;
+    }
+
     pub fn put(&mut self, more: &[u8])
         ensures { Adds more.now self.old self.new }
     {
-        self.len = put_at(self.bytes, self.len, more);
+        let fits = first(more, self.room());
+        let end = self.len + fits.len();
+        self.bytes[self.len..end].copy_from_slice(fits);
+        self.len = end;
     }
-}
-
-// Puts more behind a slice's first bytes, as far as the slice goes, and answers where the text then ends.
-pub fn put_at(out: &mut [u8], at: usize, more: &[u8]) -> usize
-    ensures text { take result out.new ≡ added out.old at more.now }
-    ensures end { result ≡ length (added out.old at more.now) }
-    ensures size { length out.new ≡ length out.old }
-{
-    let start = within(at, out);
-    let fits = first(more, out.len() - start);
-    let end = start + fits.len();
-    out[start..end].copy_from_slice(fits);
-    end
 }

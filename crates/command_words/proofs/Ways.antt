@@ -6,7 +6,8 @@ use mathlib.Core.List.{List, [], ◌∷◌, ◌++◌, append_assoc}
 use native.Mathlib.Omega.{arith}
 use lib.Ieee.{Float, nan, inf, fin, is_nan, binary32, to_bits}
 use Rattle.std.specs.Int.{w32, to_be_bytes}
-use Rattle.adding.specs.Added.{Filled, Adds}
+use Rattle.adding.specs.declared.Text.{Text}
+use Rattle.adding.specs.Added.{Adds}
 use Rattle.text.specs.Words.{ascii}
 use Rattle.text.specs.Digits.{spaced}
 use Rattle.rows.specs.Rows.{line}
@@ -30,7 +31,7 @@ highest_first n h =
 -- a value behind a word and a number
 
 pub value_line
-    : (word bytes : List ℕ) (n : ℕ) (x : Float) {before after : Filled}
+    : (word bytes : List ℕ) (n : ℕ) (x : Float) {before after : Text}
     → bytes ≡ high_first (to_bits binary32 x)
     → Adds (line word (n ∷ []) (ascii " ") bytes (ascii "\n")) before after
     → Adds ((word ++ (spaced (n ∷ []) ++ value_text x)) ++ ascii "\n") before after

@@ -9,7 +9,8 @@ use Rattle.item.specs.declared.Item.{Item}
 use Rattle.item.specs.Patterns.{patterns, item_for, patterns_of}
 use Rattle.places.specs.Part.{part}
 use Rattle.places.specs.Forms.{Store, words, offset_of, item_at}
-use Rattle.adding.specs.Added.{Filled, Adds}
+use Rattle.adding.specs.declared.Text.{Text}
+use Rattle.adding.specs.Added.{Adds}
 use Rattle.adding.specs.Laws.{adds_both, adds_nothing}
 use Rattle.dump.specs.Plans.{item_line, item_lines}
 
@@ -36,12 +37,12 @@ item_read stored words kind n item bytes e0 e1 e2 e3 e4 e5 e6 e7 is made =
 -- the lines of the items from a number on: those of none, of one more, of all
 
 module _ (letter kind : ℕ) (half : Bool) (store : Store) (from n : ℕ) where
-  pub no_items : (before : Filled) → n ≤ from → Adds (item_lines letter kind half store from (n - from)) before before
+  pub no_items : (before : Text) → n ≤ from → Adds (item_lines letter kind half store from (n - from)) before before
   unfolding item_lines
   no_items before h = let none : n - from ≡ 0 = omega arith in rw none (adds_nothing before)
 
   pub items_more
-      : (place : ℕ) (stored bytes : List ℕ) (before between after : Filled)
+      : (place : ℕ) (stored bytes : List ℕ) (before between after : Text)
       → from ≤ n
       → place ≡ offset_of words half kind n
       → stored ≡ take item_words (drop place store)

@@ -5,4 +5,4 @@ mod reading;
 mod sending;
 
 pub use reading::{Unread, read_on};
-pub use sending::send;
+pub use sending::{send, send_front};

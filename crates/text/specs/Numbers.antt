@@ -4,7 +4,8 @@ use Rattle.std.proofs.Common.{ap, ◌∙◌, append_assoc, append-nil, div-lt_if
 use Rattle.std.proofs.Math.Nat.{pow-succ'}
 use Rattle.std.proofs.Math.Decide.{dec_le}
 use Rattle.std.specs.Fmt.{digits_onto, digit_glyph, digits, decimal as Fmt·decimal}
-use Rattle.adding.specs.Added.{Filled, Adds, each}
+use Rattle.adding.specs.declared.Text.{Text}
+use Rattle.adding.specs.Added.{Adds, each}
 use Rattle.adding.specs.Laws.{adds_nothing, each_front, each_both}
 use Rattle.text.specs.Digits.{digit, decimal_in, decimal, two_digits, hex}
 
@@ -81,7 +82,7 @@ hex_made bs ds i high low h room is_high is_low so_far =
 pub hex_both : (bs part left : List ℕ) → bs ≡ part ++ left → hex bs ≡ hex part ++ hex left
 hex_both bs part left is = rw is (each_both two_digits part left)
 
-pub hex_none : (bs : List ℕ) (filled : Filled) → length bs ≡ 0 → Adds (hex bs) filled filled
+pub hex_none : (bs : List ℕ) (text : Text) → length bs ≡ 0 → Adds (hex bs) text text
 unfolding each
 hex_none [] filled none = adds_nothing filled
 hex_none (b ∷ bs) filled none = absurd (omega arith)

@@ -5,9 +5,6 @@ ghost use Rattle.text.specs.Digits.{digit as Digits·digit, decimal, after_space
 
 use adding::Text;
 
-// How many bytes' digits are made at once.
-const FEW: usize = 32;
-
 // A whole number of at most 64 bits.
 pub trait Number: Copy {
     ghost number: { Self → ℕ };
@@ -62,25 +59,28 @@ pub fn put_numbers<N: Number>(text: &mut Text, list: &[N])
     }
 }
 
-// The digits of bytes, of which there are few. They are made in an array, so that there is one test of room for all of them: `put_byte` for each takes
-// several times as long.
-fn put_few(text: &mut Text, bytes: &[u8])
-    requires { length bytes.now ≤ 32 }
-    ensures { Adds (hex bytes.now) text.old text.new }
+// The digits of bytes fill a slice.
+fn fill_digits(out: &mut [u8], bytes: &[u8])
+    requires { length out.old ≡ 2 * length bytes.now }
+    ensures { out.new ≡ hex bytes.now }
 {
-    let mut digits = [0u8; 2 * FEW];
     for (i, byte) in bytes.iter().enumerate() {
-        digits[2 * i] = digit(*byte / 16);
-        digits[2 * i + 1] = digit(*byte % 16);
+        out[2 * i] = digit(*byte / 16);
+        out[2 * i + 1] = digit(*byte % 16);
     }
-    text.put(&digits[..2 * bytes.len()]);
 }
 
-// Bytes, two hexadecimal digits each.
+// Bytes, two hexadecimal digits each. Where there is room for all, it is tested once, and they are made where they stand.
 pub fn put_hex(text: &mut Text, bytes: &[u8])
     ensures { Adds (hex bytes.now) text.old text.new }
 {
-    for few in bytes.chunks(FEW) {
-        put_few(text, few);
+    if bytes.len() <= text.room() / 2 {
+        let end = text.len + 2 * bytes.len();
+        fill_digits(&mut text.bytes[text.len..end], bytes);
+        text.len = end;
+        return;
+    }
+    for byte in bytes {
+        text.put_two([digit(*byte / 16), digit(*byte % 16)]);
     }
 }

@@ -1,16 +1,20 @@
--- `adding::Text::put` meets its contract, by what `put_at` says.
-use Rattle.std.specs.Prelude.{◌++◌, length, take}
-use Rattle.std.proofs.Common.{sym, ◌∙◌, arith, length-take, length-append}
-use Rattle.adding.specs.Laws.{behind}
+-- `adding::Text::put` meets its contract: as much as there is room for stands behind the text.
+use Rattle.std.specs.Prelude.{ℕ, List, ◌++◌, take}
+use Rattle.std.proofs.Common.{arith, ap, refl, ◌∙◌}
+use Rattle.std.proofs.lemmas.Grind.{common_steps}
+use Rattle.std.proofs.lemmas.Slice.{take-put_mid}
 use Rattle.adding.proofs.Text.put.Goals as goal
 
 pub returns : goal.returns
-returns c =
-    let t = c.self.inside in
-    let put = c.put_at-self-inside.ensures in
-    let so_far = take t.len t.bytes.now in
-    let more = c.args.more.now in
-    rw (sym c.self.view_is) (record {
-      text = put.text ∙ sym (behind t.len t.len t.bytes.now more (omega (arith, c.self.invariant)));
-      left = omega (arith, c.self.invariant, put.end, put.size, length-take (length t.bytes.now) (so_far ++ more), length-take t.len t.bytes.now, length-append so_far more);
-    })
+returns c = let t = c.args.self.now in
+    let new = c.copy_from_slice.new.self in
+    record {
+      same = refl;
+      more_stands = record {
+        text =
+            take-put_mid t.len _ t.bytes.now new _ (omega arith) (omega arith)
+            ∙ ap (λ (k : List ℕ). take t.len t.bytes.now ++ k)
+            (c.copy_from_slice.ensures.after ∙ c.first-fits.ensures ∙ ap (λ (n : ℕ). take n c.args.more.now) c.room.ensures);
+        left = grind (arith, common_steps);
+      };
+    }

@@ -1,10 +1,12 @@
 -- `streams::sending::send` meets its contract, by its test.
 use Rattle.std.proofs.Common.{◌∙◌}
+use Rattle.adding.specs.Added.{filled}
 use Rattle.streams.specs.Laws.{sent_none, sent_all}
 use Rattle.streams.proofs.sending.send.Goals as goal
 
-pub returns-then-room : goal.returns-then-room
-returns-then-room g c = c.clear.ensures ∙ sent_all c.args.text.now c.args.room (rw c.room.ensures at c.if-room.true)
+pub returns-then-room-clause-value : goal.returns-then-room-clause-value
+returns-then-room-clause-value g c =
+    c.clear.ensures.text ∙ sent_all (filled c.args.text.now) c.args.room (rw c.room.ensures at c.if-room.true)
 
-pub returns-else-room : goal.returns-else-room
-returns-else-room g c = sent_none c.args.text.now c.args.room (rw c.room.ensures at c.if-room.false)
+pub returns-else-room-clause-value : goal.returns-else-room-clause-value
+returns-else-room-clause-value g c = sent_none (filled c.args.text.now) c.args.room (rw c.room.ensures at c.if-room.false)

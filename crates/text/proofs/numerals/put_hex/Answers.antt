@@ -1,11 +1,16 @@
--- `text::numerals::put_hex` meets its contract: the digits of a few bytes, and those of the bytes that are left.
-use Rattle.adding.specs.Laws.{adds_both}
-use Rattle.text.specs.Numbers.{hex_both, hex_none}
+-- `text::numerals::put_hex` meets its contract. The loop's invariant: the digits of the bytes so far are added.
+use mathlib.Core.Path.{sym}
+use native.Mathlib.Omega.{arith}
+use Rattle.adding.specs.Added.{each}
+use Rattle.adding.specs.Laws.{adds_nothing, put_each_more}
+use Rattle.text.specs.Digits.{two_digits}
 use Rattle.text.proofs.numerals.put_hex.Goals as goal
 
-pub loop-few-preserved : goal.loop-few-preserved
-loop-few-preserved c = λ after adds.
-    c.loop-few.invariant after (rw (hex_both c.loop-few.few-iterator.rest.now c.in-Some.few.now c.next.new.self.rest.now c.in-Some.ensures.steps.1.0) (adds_both c.put_few.ensures adds))
+pub loop-byte-init : goal.loop-byte-init
+unfolding each
+loop-byte-init c = adds_nothing _
 
-pub returns : goal.returns
-returns c = c.loop-few.invariant c.loop-few.text (hex_none _ _ c.in-None.ensures.steps.1.0)
+pub loop-byte-preserved : goal.loop-byte-preserved
+loop-byte-preserved c =
+    put_each_more _ _ _ _ c.loop-byte.byte-index 0 (omega arith) two_digits c.loop-byte.invariant
+    (rw (sym c.digit.ensures, sym c.digit-in-loop-byte.ensures) c.put_two.ensures)
