@@ -9,6 +9,7 @@ ghost use Rattle.wire.specs.Structs.{current_message, count_message, ack_message
 ghost use Rattle.fields.specs.Packed.{BytesOf};
 ghost use Rattle.std.proofs.Math.Path.{refl};
 
+use copying::copy;
 use fields::{bytes16, bytes32};
 use item::item_bytes;
 use std::convert::AsSlice;
@@ -163,7 +164,7 @@ impl Written for Statustext {
         all[51] = id[0];
         all[52] = id[1];
         all[53] = self.chunk;
-        all[1..51].copy_from_slice(&self.text);
+        copy(&self.text, 50, &mut all, 1);
         all
     }
 }

@@ -1,13 +1,14 @@
 -- Laws of trimming: bytes by those that end them.
-use Prim.Native.Nat.{ℕ, suc, ◌+◌, ◌<◌, ◌≤◌, min, max}
+use Prim.Native.Nat.{ℕ, zero, suc, ◌+◌, ◌-◌, ◌*◌, ◌<◌, ◌≤◌, min, max}
 use mathlib.Core.Path.{◌≡◌, refl, ap, sym, ◌∙◌}
-use mathlib.Core.List.{[], ◌∷◌, ◌++◌}
+use mathlib.Core.List.{List, [], ◌∷◌, ◌++◌}
 use mathlib.Core.Bool.{Bool, true, false, cond}
 use native.Mathlib.Nat.{zero-add}
 use native.Mathlib.Omega.{arith}
 use lib.Dec.{eqb}
 use lib.ListN.{length, get_or, take, drop, length-take, length-drop}
-use lib.Seq.{take-add, drop-cons, length-take-le, paste, get_or-drop}
+use lib.Seq.{take-add, drop-cons, drop-drop, length-take-le, paste, get_or-drop}
+use Rattle.std.specs.Simd.{first_chunks}
 use Rattle.std.proofs.lemmas.List.{take-append-drop}
 use borrow.Author.Tests.{ne_eqb}
 use Rattle.rules.specs.Payload.{Bytes, significant, trim}
@@ -79,21 +80,93 @@ trimmed : (bs : Bytes) (n : ℕ) → n ≤ length bs → max 1 (significant bs) 
 unfolding trim
 trimmed bs n h e = rw e (sym (length-take-le n bs h))
 
-pub trimmed_other :
+pub last_significant :
     (bs : Bytes) (last : ℕ) → last < length bs → (get_or bs last 0 ≡ 0 → ⊥) → ((k : ℕ) → last < k → k < length bs → get_or bs k 0 ≡ 0)
-    → last + 1 ≡ length (trim bs)
-trimmed_other bs last short other zeros =
+    → significant bs ≡ last + 1
+last_significant bs last short other zeros =
     let here : significant (take (last + 1) bs) ≡ last + significant (take 1 (drop last bs)) =
     window_other bs last 1 (omega arith) (omega (arith, byte_other bs last short other)) in
     let end : significant (drop (last + 1) bs) ≡ 0 =
     all_zeros (drop (last + 1) bs) (λ k below. get_or-drop (last + 1) bs k 0 ∙ zeros (last + 1 + k) (omega arith) (omega (arith, length-drop (last + 1) bs))) in
     let whole : significant bs ≡ significant (take (last + 1) bs) =
     ap significant (sym (take-append-drop (last + 1) bs)) ∙ zeros_end (take (last + 1) bs) (drop (last + 1) bs) end in
-    trimmed bs (last + 1) (omega arith) (omega (arith, here, whole, byte_other bs last short other))
+    omega (arith, here, whole, byte_other bs last short other)
+
+pub trimmed_other :
+    (bs : Bytes) (last : ℕ) → last < length bs → (get_or bs last 0 ≡ 0 → ⊥) → ((k : ℕ) → last < k → k < length bs → get_or bs k 0 ≡ 0)
+    → last + 1 ≡ length (trim bs)
+trimmed_other bs last short other zeros = trimmed bs (last + 1) (omega arith) (omega (arith, last_significant bs last short other zeros))
 
 pub trimmed_none : (bs : Bytes) → ((k : ℕ) → k < length bs → get_or bs k 0 ≡ 0) → min (length bs) 1 ≡ length (trim bs)
 unfolding trim
 trimmed_none bs zeros = let none : significant bs ≡ 0 = all_zeros bs zeros in omega (arith, length-take (max 1 (significant bs)) bs)
+
+-- the same, by the eights that stand behind the first bytes: one of a row of chunks is the part of the list at its place
+chunk_at : (n k i : ℕ) (s : Bytes) → i < k → get_or (first_chunks n k s) i [] ≡ take n (drop (i * n) s)
+chunk_at n zero i s below = absurd (omega arith)
+chunk_at n (suc k) zero s below = let e : 0 * n ≡ 0 = omega arith in rw e refl
+chunk_at n (suc k) (suc i) s below =
+    let e : n + i * n ≡ suc i * n = omega arith in
+    chunk_at n k i (drop n s) (omega arith) ∙ ap (take n) (drop-drop (i * n) n s ∙ ap (λ (m : ℕ). drop m s) e)
+
+module _ (bs : Bytes) (first k : ℕ) (eights : List Bytes) (is : eights ≡ first_chunks 8 k (drop first bs)) (count : length eights ≡ k) (inside : first + k * 8 ≤ length bs) where
+  eight_at : (i : ℕ) → i < k → get_or eights i [] ≡ take 8 (drop (first + i * 8) bs)
+  eight_at i below = ap (λ (l : List Bytes). get_or l i []) is ∙ chunk_at 8 k i (drop first bs) below ∙ ap (take 8) (drop-drop (i * 8) first bs)
+
+  -- where all are zeros from one on, and as many as follow, nothing is significant in these
+  passed : (m d : ℕ) → m + d ≤ k → ((i : ℕ) → m ≤ i → i < k → significant (get_or eights i []) ≡ 0) → significant (take (first + (m + d) * 8) bs) ≡ significant (take (first + m * 8) bs)
+  passed m zero upto zeros = let e : first + (m + 0) * 8 ≡ first + m * 8 = omega arith in ap (λ (n : ℕ). significant (take n bs)) e
+  passed m (suc d) upto zeros =
+      let e : first + (m + suc d) * 8 ≡ first + (m + d) * 8 + 8 = omega arith in
+      let none : significant (take 8 (drop (first + (m + d) * 8) bs)) ≡ 0 =
+      ap significant (sym (eight_at (m + d) (omega arith))) ∙ zeros (m + d) (omega arith) (omega arith) in
+      ap (λ (n : ℕ). significant (take n bs)) e ∙ window_zero bs (first + (m + d) * 8) 8 none ∙ passed m d (omega arith) zeros
+
+  module _ (rest : Bytes) (behind : rest ≡ drop (first + k * 8) bs) where
+    parted : take (first + k * 8) bs ++ rest ≡ bs
+    parted = ap (λ (l : Bytes). take (first + k * 8) bs ++ l) behind ∙ take-append-drop (first + k * 8) bs
+
+    size : length rest ≡ length bs - (first + k * 8)
+    size = ap length behind ∙ length-drop (first + k * 8) bs
+
+    -- the last byte that is not zero stands behind the eights
+    pub trimmed_rest : (last : ℕ) → last < length rest → (get_or rest last 0 ≡ 0 → ⊥) → ((i : ℕ) → last < i → i < length rest → get_or rest i 0 ≡ 0)
+        → length bs - length rest + last + 1 ≡ length (trim bs)
+    trimmed_rest last short other zeros =
+        let some : significant rest ≡ last + 1 = last_significant rest last short other zeros in
+        let whole : significant bs ≡ length (take (first + k * 8) bs) + significant rest =
+        ap significant (sym parted) ∙ others_end (take (first + k * 8) bs) rest (omega arith) in
+        trimmed bs (length bs - length rest + last + 1) (omega (arith, size))
+        (omega (arith, whole, some, size, length-take-le (first + k * 8) bs inside))
+
+    module _ (none : (i : ℕ) → i < length rest → get_or rest i 0 ≡ 0) where
+      upto_there : (m : ℕ) → m ≤ k → ((i : ℕ) → m ≤ i → i < k → significant (get_or eights i []) ≡ 0) → significant bs ≡ significant (take (first + m * 8) bs)
+      upto_there m upto zeros =
+          let end : m + (k - m) ≡ k = omega arith in
+          ap significant (sym parted)
+          ∙ zeros_end (take (first + k * 8) bs) rest (all_zeros rest none)
+          ∙ ap (λ (n : ℕ). significant (take (first + n * 8) bs)) (sym end)
+          ∙ passed m (k - m) (omega arith) zeros
+
+      -- in one of the eights
+      pub trimmed_eight : (last z : ℕ) → last < length eights → (significant (get_or eights last []) ≡ 0 → ⊥)
+          → ((i : ℕ) → last < i → i < length eights → significant (get_or eights i []) ≡ 0) → z + significant (get_or eights last []) ≡ 8
+          → first + 8 * last + (8 - z) ≡ length (trim bs)
+      trimmed_eight last z short other zeros ends =
+          let here = eight_at last (omega arith) in
+          let some : 0 < significant (take 8 (drop (first + last * 8) bs)) = omega (arith, ap significant here, other) in
+          let next : first + suc last * 8 ≡ first + last * 8 + 8 = omega arith in
+          let whole : significant bs ≡ first + last * 8 + significant (take 8 (drop (first + last * 8) bs)) =
+          upto_there (suc last) (omega arith) (λ i from below. zeros i (omega arith) (omega arith))
+          ∙ ap (λ (n : ℕ). significant (take n bs)) next
+          ∙ window_other bs (first + last * 8) 8 (omega arith) some in
+          trimmed bs (first + 8 * last + (8 - z)) (omega arith) (omega (arith, whole, ap significant here))
+
+      -- nowhere behind the first byte
+      pub trimmed_first : first ≡ 1 → ((i : ℕ) → i < length eights → significant (get_or eights i []) ≡ 0) → 1 ≡ length (trim bs)
+      trimmed_first one zeros =
+          let whole : significant bs ≡ significant (take (first + 0 * 8) bs) = upto_there 0 (omega arith) (λ i from below. zeros i (omega arith)) in
+          trimmed bs 1 (omega arith) (omega (arith, whole, significant_at_most (take (first + 0 * 8) bs), length-take (first + 0 * 8) bs))
 
 -- where a message has bytes at all, its trimmed bytes are its first ones
 pub trim_front : (bs : Bytes) → 0 < length bs → (length (trim bs) ≤ length bs) × (take (length (trim bs)) bs ≡ trim bs)

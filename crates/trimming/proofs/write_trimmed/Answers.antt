@@ -4,7 +4,10 @@ use mathlib.Core.Path.{◌≡◌, refl, ◌∙◌}
 use native.Mathlib.Omega.{arith}
 use lib.ListN.{length}
 use lib.Seq.{paste}
+use Rattle.rules.specs.Limits.{reply_bytes_min}
 use Rattle.rules.specs.Payload.{Bytes, trim}
+use Rattle.rule_laws.specs.Layout.{layouts_fit}
+use Rattle.copying.specs.Blocks.{front_bytes}
 use Rattle.trimming.specs.Written.{Written}
 use Rattle.trimming.proofs.Laws.{trim_front, pasted}
 use borrow.Author.Rules.{rules}
@@ -21,6 +24,9 @@ module _ (bytes out : Bytes) (f full : ℕ) (long : length bytes ≡ f) (is : fu
     in_out : full ≤ length out → n ≤ length out
     in_out room = omega (arith, in_bytes)
 
+    in_blocks : f ≤ reply_bytes_min → n ≤ front_bytes
+    in_blocks most = omega (arith, in_bytes)
+
     wrote : full ≤ length out → (out' : Bytes) → out' ≡ paste out 0 bytes n → Written bytes out out' n
     wrote room out' e =
         record {
@@ -31,8 +37,8 @@ module _ (bytes out : Bytes) (f full : ℕ) (long : length bytes ≡ f) (is : fu
 pub returns-then-out-full : goal.returns-then-out-full
 returns-then-out-full c = search (too_short, rules)
 
-pub copy-requires : goal.copy-requires
-copy-requires c = search (in_bytes, in_out, rules)
+pub copy_front-requires : goal.copy_front-requires
+copy_front-requires c = search (in_bytes, in_out, in_blocks, layouts_fit, rules)
 
 pub returns : goal.returns
 returns c = search (wrote, rules)

@@ -2,7 +2,10 @@
 use Prim.Native.Nat.{ℕ, ◌<◌}
 use mathlib.Core.Path.{◌≡◌, ap, sym, ◌∙◌}
 use mathlib.Core.List.{List, [], ◌∷◌, ◌++◌}
+use native.Mathlib.Omega.{arith}
+use lib.Dec.{lit≤}
 use lib.ListN.{length, get_or}
+use lib.Seq.{take_all}
 use mir.Val.{Fits}
 use mir.Syntax.{w8}
 use Rattle.rules.specs.Payload.{bytes_of}
@@ -22,11 +25,12 @@ returns-clause-all c = let m = c.args.self in
     let id : m.id < 65536 = search rules in
     let chunk : m.chunk < 256 = search rules in
     let first = one_byte m.severity (severity) in
-    let whole = c.copy_from_slice.ensures.after in
+    let whole = take_all 50 m.text (omega (arith, long)) in
     let last = one_byte m.chunk (chunk) in
     record {
       all =
-          (λ i. first i ++ (whole i ++ (two_bytes m.id c.bytes16-id.ensures i ++ (last i ++ []))))
+          c.copy.ensures
+          ∙ (λ i. first i ++ (whole i ++ (two_bytes m.id c.bytes16-id.ensures i ++ (last i ++ []))))
           ∙ ap (λ (l : List ℕ). bytes_of 1 m.severity ++ l)
           (sym (pack_chars 50 1 m.text (m.id ∷ m.chunk ∷ []) (u16 51 ∷ u8 53 ∷ []) (long) (λ i. (small i).fits)));
       fits = (severity, chars_fit 50 1 m.text (m.id ∷ m.chunk ∷ []) (u16 51 ∷ u8 53 ∷ []) long (λ i. (small i).fits) (id, (chunk, tt)));
