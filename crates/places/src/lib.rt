@@ -62,12 +62,15 @@ pub fn place_at(kind: Kind, half: bool, n: u16) -> usize
     item_place(kind, half, n) as usize * ITEM_WORDS
 }
 
-// The eight words from `at` become an item's; every other word stays.
+// The eight words from `at` become an item's; every other word stays. Word by word they go as a whole: the library's `copy_from_slice` tests first whether both
+// share memory.
 pub fn put_item(store: &mut [u32], at: usize, item: [u32; ITEM_WORDS])
     requires { at + item_words ≤ length store.old }
     ensures { store.new ≡ put store.old at item }
 {
-    store[at..at + ITEM_WORDS].copy_from_slice(&item);
+    for i in 0..ITEM_WORDS {
+        store[at + i] = item[i];
+    }
 }
 
 const LAST_WORD: usize = ITEM_WORDS - 1;

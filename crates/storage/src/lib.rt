@@ -86,13 +86,13 @@ pub fn keep(store: &mut [u32], kind: Kind, half: bool, n: u16, item: Item)
     put_item(store, place_at(kind, half, n), kept);
 }
 
-// The item with a number goes, as it stands in a half, to its place in the other half.
+// The item with a number goes, as it stands in a half, to its place in the other half: as a whole, where the library's `copy_within` goes word by word.
 fn carry(store: &mut [u32], kind: Kind, half: bool, n: u16)
     requires { (store_words ≤ length store.old) × (n < size_of (kind_number kind)) }
     ensures { store.new ≡ carried_at words store.old half (kind_number kind) n }
 {
-    let from = place_at(kind, half, n);
-    store.copy_within(from..from + ITEM_WORDS, place_at(kind, !half, n));
+    let item = words_at(store, item_place(kind, half, n));
+    put_item(store, place_at(kind, !half, n), item);
 }
 
 // The items from number `low` on and below `high` do.
