@@ -1,4 +1,4 @@
--- Laws of text that is added to.
+-- Laws of text that is added to. Before a law of a text in its buffer (`Adds`) stands the same of any two states (`AddsTo`).
 use Rattle.std.specs.Prelude.{ℕ, zero, suc, ◌+◌, ◌-◌, ◌<◌, ◌≤◌, min, ◌≡◌, refl, List, [], ◌∷◌, ◌++◌, length, take, get_or}
 use Rattle.std.proofs.Common.{ap, sym, ◌∙◌, append_assoc, append-nil, add-one, arith, length-take, length-append, take_all, take-suc}
 use Rattle.std.proofs.Math.Seq.{take-nil}
@@ -24,7 +24,7 @@ behind at start l more is =
     ∙ ap (λ (k : List ℕ). take (length l) (k ++ more)) (front_of at start l is)
 
 -- two texts, one after the other
-adds_to_both : {t u : List ℕ} {before between after : Filled} → AddsTo t before between → AddsTo u between after → AddsTo (t ++ u) before after
+pub adds_to_both : {t u : List ℕ} {before between after : Filled} → AddsTo t before between → AddsTo u between after → AddsTo (t ++ u) before after
 adds_to_both {t} {u} {before} {between} {after} first second =
     record {
       text = second.text ∙ rw (first.text, first.left, append_assoc, take_both) refl;
@@ -35,15 +35,21 @@ pub adds_both : {t u : List ℕ} {before between after : Text} → Adds t before
 adds_both first second = record { same = second.same ∙ first.same; more_stands = adds_to_both first.more_stands second.more_stands }
 
 -- a byte and what follows it
+pub adds_to_after : (b : ℕ) (t : List ℕ) {before between after : Filled} → AddsTo (b ∷ []) before between → AddsTo t between after → AddsTo (b ∷ t) before after
+adds_to_after b t first second = adds_to_both first second
+
 pub adds_after : (b : ℕ) (t : List ℕ) {before between after : Text} → Adds (b ∷ []) before between → Adds t between after → Adds (b ∷ t) before after
 adds_after b t first second = adds_both first second
 
 -- the text of what is equal
+pub adds_to_as : {A : Type 0} (text : A → List ℕ) (a b : A) {before after : Filled} → a ≡ b → AddsTo (text b) before after → AddsTo (text a) before after
+adds_to_as text a b e adds = rw e adds
+
 pub adds_as : {A : Type 0} (text : A → List ℕ) (a b : A) {before after : Text} → a ≡ b → Adds (text b) before after → Adds (text a) before after
 adds_as text a b e adds = rw e adds
 
 -- nothing
-nothing_to : (before : Filled) → AddsTo [] before before
+pub nothing_to : (before : Filled) → AddsTo [] before before
 nothing_to before = record { text = rw take-nil (sym (append-nil before.text)); left = omega arith }
 
 pub adds_nothing : (before : Text) → Adds [] before before
@@ -78,6 +84,16 @@ each_both text (x ∷ a) b = ap (λ (k : List ℕ). text x ++ k) (each_both text
 pub each_front : {A : Type 0} (text : A → List ℕ) (l : List A) (i : ℕ) (x : A) → i < length l → each text (take (i + 1) l) ≡ each text (take i l) ++ text (get_or l i x)
 each_front text l i x h = rw (front_more l i x h) (each_more text (take i l) (get_or l i x))
 
+module _ {A : Type 0} (l : List A) (before between after : Filled) (i : ℕ) (x : A) (h : i < length l) where
+  pub each_more_to
+      : (text : A → List ℕ) → AddsTo (each text (take i l)) before between → AddsTo (text (get_or l i x)) between after → AddsTo (each text (take (i + 1) l)) before after
+  each_more_to text first second = rw (each_front text l i x h) (adds_to_both first second)
+
+  pub each_as_to
+      : (text : A → List ℕ) (y : A) → y ≡ get_or l i x → AddsTo (each text (take i l)) before between → AddsTo (text y) between after
+      → AddsTo (each text (take (i + 1) l)) before after
+  each_as_to text y is first second = each_more_to text first (rw is at second)
+
 module _ {A : Type 0} (l : List A) (before between after : Text) (i : ℕ) (x : A) (h : i < length l) where
   pub put_each_more : (text : A → List ℕ) → Adds (each text (take i l)) before between → Adds (text (get_or l i x)) between after → Adds (each text (take (i + 1) l)) before after
   put_each_more text first second = rw (each_front text l i x h) (adds_both first second)
@@ -87,6 +103,10 @@ module _ {A : Type 0} (l : List A) (before between after : Text) (i : ℕ) (x : 
   put_each_as text y is first second = put_each_more text first (rw is at second)
 
 -- at the end it is the whole list
+pub whole_list_to
+    : {A : Type 0} (text : List A → List ℕ) (l : List A) (before after : Filled) (i : ℕ) → length l ≤ i → AddsTo (text (take i l)) before after → AddsTo (text l) before after
+whole_list_to text l before after i most adds = rw (take_all i l most) at adds
+
 pub whole_list
     : {A : Type 0} (text : List A → List ℕ) (l : List A) (before after : Text) (i : ℕ) → length l ≤ i → Adds (text (take i l)) before after → Adds (text l) before after
 whole_list text l before after i most adds = rw (take_all i l most) at adds

@@ -7,7 +7,7 @@ use native.Mathlib.Omega.{arith}
 use lib.Ieee.{Float, nan, inf, fin, is_nan, binary32, to_bits}
 use Rattle.std.specs.Int.{w32, to_be_bytes}
 use Rattle.adding.specs.declared.Text.{Text}
-use Rattle.adding.specs.Added.{Adds}
+use Rattle.adding.specs.Added.{Filled, AddsTo, Adds}
 use Rattle.text.specs.Words.{ascii}
 use Rattle.text.specs.Digits.{spaced}
 use Rattle.rows.specs.Rows.{line}
@@ -30,10 +30,17 @@ highest_first n h =
 
 -- a value behind a word and a number
 
+pub value_line_to
+    : (word bytes : List ℕ) (n : ℕ) (x : Float) {before after : Filled}
+    → bytes ≡ high_first (to_bits binary32 x)
+    → AddsTo (line word (n ∷ []) (ascii " ") bytes (ascii "\n")) before after
+    → AddsTo ((word ++ (spaced (n ∷ []) ++ value_text x)) ++ ascii "\n") before after
+value_line_to word bytes n x is adds =
+    rw (append_assoc word (spaced (n ∷ []) ++ value_text x) (ascii "\n"), append_assoc (spaced (n ∷ [])) (value_text x) (ascii "\n"), ← is) adds
+
 pub value_line
     : (word bytes : List ℕ) (n : ℕ) (x : Float) {before after : Text}
     → bytes ≡ high_first (to_bits binary32 x)
     → Adds (line word (n ∷ []) (ascii " ") bytes (ascii "\n")) before after
     → Adds ((word ++ (spaced (n ∷ []) ++ value_text x)) ++ ascii "\n") before after
-value_line word bytes n x is adds =
-    rw (append_assoc word (spaced (n ∷ []) ++ value_text x) (ascii "\n"), append_assoc (spaced (n ∷ [])) (value_text x) (ascii "\n"), ← is) adds
+value_line word bytes n x is adds = record { same = adds.same; more_stands = value_line_to word bytes n x is adds.more_stands }

@@ -1,12 +1,12 @@
 -- A number's decimal digits, made from the last to the first.
 use Rattle.std.specs.Prelude.{false, ℕ, zero, suc, ◌+◌, ◌*◌, ◌/◌, ◌%◌, ◌^◌, ◌<◌, ◌≤◌, ◌≡◌, List, [], ◌∷◌, ◌++◌, length, set, take, get_or}
-use Rattle.std.proofs.Common.{ap, ◌∙◌, append_assoc, append-nil, div-lt_iff_lt-mul, arith, length-set, take-suc-set, lt-ltb, le-ltb, eq-eqb, ne_eqb, sym}
+use Rattle.std.proofs.Common.{ap, refl, ◌∙◌, append_assoc, append-nil, div-lt_iff_lt-mul, arith, length-set, take-suc-set, lt-ltb, le-ltb, eq-eqb, ne_eqb, sym}
 use Rattle.std.proofs.Math.Nat.{pow-succ'}
 use Rattle.std.proofs.Math.Decide.{dec_le}
 use Rattle.std.specs.Fmt.{digits_onto, digit_glyph, digits, decimal as Fmt·decimal}
 use Rattle.adding.specs.declared.Text.{Text}
-use Rattle.adding.specs.Added.{Adds, each}
-use Rattle.adding.specs.Laws.{adds_nothing, each_front, each_both}
+use Rattle.adding.specs.Added.{Filled, filled, AddsTo, Adds, each}
+use Rattle.adding.specs.Laws.{nothing_to, each_front, each_both}
 use Rattle.text.specs.Digits.{digit, decimal_in, decimal, two_digits, hex}
 
 -- how many digits a number may have does not matter, where there are enough
@@ -82,7 +82,11 @@ hex_made bs ds i high low h room is_high is_low so_far =
 pub hex_both : (bs part left : List ℕ) → bs ≡ part ++ left → hex bs ≡ hex part ++ hex left
 hex_both bs part left is = rw is (each_both two_digits part left)
 
-pub hex_none : (bs : List ℕ) (text : Text) → length bs ≡ 0 → Adds (hex bs) text text
+-- those of no bytes
+pub hex_none_to : (bs : List ℕ) (filled : Filled) → length bs ≡ 0 → AddsTo (hex bs) filled filled
 unfolding each
-hex_none [] filled none = adds_nothing filled
-hex_none (b ∷ bs) filled none = absurd (omega arith)
+hex_none_to [] filled none = nothing_to filled
+hex_none_to (b ∷ bs) filled none = absurd (omega arith)
+
+pub hex_none : (bs : List ℕ) (text : Text) → length bs ≡ 0 → Adds (hex bs) text text
+hex_none bs text none = record { same = refl; more_stands = hex_none_to bs (filled text) none }
