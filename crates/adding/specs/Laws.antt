@@ -1,4 +1,4 @@
--- Laws of text that is added to. Before a law of a text in its buffer (`Adds`) stands the same of any two states (`AddsTo`).
+-- Laws of text that is added to. A law of a text in its buffer (`Adds`) follows from the one before it, of any two states (`AddsTo`).
 use Rattle.std.specs.Prelude.{ℕ, zero, suc, ◌+◌, ◌-◌, ◌<◌, ◌≤◌, min, ◌≡◌, refl, List, [], ◌∷◌, ◌++◌, length, take, get_or}
 use Rattle.std.proofs.Common.{ap, sym, ◌∙◌, append_assoc, append-nil, add-one, arith, length-take, length-append, take_all, take-suc}
 use Rattle.std.proofs.Math.Seq.{take-nil}
@@ -39,14 +39,14 @@ pub adds_to_after : (b : ℕ) (t : List ℕ) {before between after : Filled} →
 adds_to_after b t first second = adds_to_both first second
 
 pub adds_after : (b : ℕ) (t : List ℕ) {before between after : Text} → Adds (b ∷ []) before between → Adds t between after → Adds (b ∷ t) before after
-adds_after b t first second = adds_both first second
+adds_after b t first second = record { same = second.same ∙ first.same; more_stands = adds_to_after b t first.more_stands second.more_stands }
 
 -- the text of what is equal
 pub adds_to_as : {A : Type 0} (text : A → List ℕ) (a b : A) {before after : Filled} → a ≡ b → AddsTo (text b) before after → AddsTo (text a) before after
 adds_to_as text a b e adds = rw e adds
 
 pub adds_as : {A : Type 0} (text : A → List ℕ) (a b : A) {before after : Text} → a ≡ b → Adds (text b) before after → Adds (text a) before after
-adds_as text a b e adds = rw e adds
+adds_as text a b e adds = record { same = adds.same; more_stands = adds_to_as text a b e adds.more_stands }
 
 -- nothing
 pub nothing_to : (before : Filled) → AddsTo [] before before
@@ -96,11 +96,19 @@ module _ {A : Type 0} (l : List A) (before between after : Filled) (i : ℕ) (x 
 
 module _ {A : Type 0} (l : List A) (before between after : Text) (i : ℕ) (x : A) (h : i < length l) where
   pub put_each_more : (text : A → List ℕ) → Adds (each text (take i l)) before between → Adds (text (get_or l i x)) between after → Adds (each text (take (i + 1) l)) before after
-  put_each_more text first second = rw (each_front text l i x h) (adds_both first second)
+  put_each_more text first second =
+      record {
+        same = second.same ∙ first.same;
+        more_stands = each_more_to l (filled before) (filled between) (filled after) i x h text first.more_stands second.more_stands;
+      }
 
   pub put_each_as
       : (text : A → List ℕ) (y : A) → y ≡ get_or l i x → Adds (each text (take i l)) before between → Adds (text y) between after → Adds (each text (take (i + 1) l)) before after
-  put_each_as text y is first second = put_each_more text first (rw is at second)
+  put_each_as text y is first second =
+      record {
+        same = second.same ∙ first.same;
+        more_stands = each_as_to l (filled before) (filled between) (filled after) i x h text y is first.more_stands second.more_stands;
+      }
 
 -- at the end it is the whole list
 pub whole_list_to
@@ -109,4 +117,8 @@ whole_list_to text l before after i most adds = rw (take_all i l most) at adds
 
 pub whole_list
     : {A : Type 0} (text : List A → List ℕ) (l : List A) (before after : Text) (i : ℕ) → length l ≤ i → Adds (text (take i l)) before after → Adds (text l) before after
-whole_list text l before after i most adds = rw (take_all i l most) at adds
+whole_list text l before after i most adds =
+    record {
+      same = adds.same;
+      more_stands = whole_list_to text l (filled before) (filled after) i most adds.more_stands;
+    }

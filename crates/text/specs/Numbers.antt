@@ -83,10 +83,10 @@ pub hex_both : (bs part left : List ℕ) → bs ≡ part ++ left → hex bs ≡ 
 hex_both bs part left is = rw is (each_both two_digits part left)
 
 -- those of no bytes
-pub hex_none_to : (bs : List ℕ) (filled : Filled) → length bs ≡ 0 → AddsTo (hex bs) filled filled
+pub hex_none_to : (bs : List ℕ) (before : Filled) → length bs ≡ 0 → AddsTo (hex bs) before before
 unfolding each
-hex_none_to [] filled none = nothing_to filled
-hex_none_to (b ∷ bs) filled none = absurd (omega arith)
+hex_none_to [] before none = nothing_to before
+hex_none_to (b ∷ bs) before none = absurd (omega arith)
 
 pub hex_none : (bs : List ℕ) (text : Text) → length bs ≡ 0 → Adds (hex bs) text text
 hex_none bs text none = record { same = refl; more_stands = hex_none_to bs (filled text) none }
